@@ -1,0 +1,97 @@
+-- The code: its table of positions, the checks of a data symbol, code word and syndrome, and when the table is self-orthogonal.
+use mathlib.Core.Logic.{_≢_}
+use mathlib.Core.Bool.{Bool, true, false, not, _&&_, _||_}
+use mathlib.Core.List.{List, [], _∷_, _++_}
+use Prim.Native.Nat.{ℕ, zero, suc, _+_, _%_, _<_, _≤_}
+use lib.Dec.{eqb, leb}
+use lib.ListN.{getD, take, drop}
+use Rattle.model.specs.Symbols.{choose, sub, count, sumOver, tabulate}
+
+-- "q is the alphabet size", "k is the number of data symbols and also the number of check symbols", and the positions of the code table
+pub record Code : Type 0 where
+  pub q : ℕ
+  pub k : ℕ
+  pub positions : List ℕ
+
+-- The sizes. k stands for a number of symbols nowhere else.
+abbrev pub dataCount : Code → ℕ
+dataCount c = c .k
+
+abbrev pub checkCount : Code → ℕ
+checkCount c = c .k
+
+-- "A page (code word) has n = 2 times k symbols"
+abbrev pub pageLength : Code → ℕ
+pageLength c = dataCount c + checkCount c
+
+-- the (j + p) mod k over a list of positions p
+unfoldable pub checksBy : ℕ → List ℕ → ℕ → List ℕ
+checksBy k [] j = []
+checksBy k (p ∷ ps) j = (j + p) % k ∷ checksBy k ps j
+
+-- "data symbol j is in the checks (j + p) mod k, and no others. We call these its checks."
+abbrev pub checksOf : Code → ℕ → List ℕ
+checksOf c j = checksBy (c .k) (c .positions) j
+
+-- the sum of u((i − p) mod k) over a list of positions p, as a number
+unfoldable pub checkSumBy : ℕ → List ℕ → List ℕ → ℕ → ℕ
+checkSumBy k ps u i = sumOver ps (λ p. getD u (sub k i p) 0)
+
+-- "Check v(i) is the sum of u((i − p) mod k) over all positions p of the table."
+unfoldable pub checkSymbol : Code → List ℕ → ℕ → ℕ
+checkSymbol c u i = checkSumBy (c .k) (c .positions) u i % c .q
+
+-- v(0) to v(k − 1)
+unfoldable pub checkSymbols : Code → List ℕ → List ℕ
+checkSymbols c u = tabulate (checkCount c) (λ i. checkSymbol c u i)
+
+-- "data u(0) to u(k − 1), then checks v(0) to v(k − 1)"
+unfoldable pub codeWord : Code → List ℕ → List ℕ
+codeWord c u = u ++ checkSymbols c u
+
+-- the data and the checks of a received page
+abbrev pub dataOf : Code → List ℕ → List ℕ
+dataOf c page = take (dataCount c) page
+
+abbrev pub receivedChecks : Code → List ℕ → List ℕ
+receivedChecks c page = drop (dataCount c) page
+
+-- "s(i) = (sum of received data symbols in check i) − (received check symbol i)"
+unfoldable pub syndrome : Code → List ℕ → List ℕ
+syndrome c page = tabulate (checkCount c) (λ i. sub (c .q) (checkSymbol c (dataOf c page) i) (getD (receivedChecks c page) i 0))
+
+-- how many checks data symbols j and l have in common
+unfoldable pub shared : Code → ℕ → ℕ → ℕ
+shared c j l = sumOver (checksOf c j) (λ i. count i (checksOf c l))
+
+-- "The table is self-orthogonal when any two different data symbols have at most one check in common."
+abbrev pub SelfOrthogonal : Code → Type 0
+SelfOrthogonal c = (j l : ℕ) → j < dataCount c → l < dataCount c → l ≢ j → shared c j l ≤ 1
+
+-- whether a test holds for each number below n
+unfoldable pub everyBelow : ℕ → (ℕ → Bool) → Bool
+everyBelow zero f = true
+everyBelow (suc n) f = f n && everyBelow n f
+
+-- the same as a test, over all pairs of data symbols
+unfoldable pub selfOrthogonal : Code → Bool
+selfOrthogonal c = everyBelow (dataCount c) (λ j. everyBelow (dataCount c) (λ l. eqb l j || leb (shared c j l) 1))
+
+-- (a − b) mod k over the positions b other than a
+unfoldable pub differencesFrom : ℕ → ℕ → List ℕ → List ℕ
+differencesFrom k a [] = []
+differencesFrom k a (b ∷ bs) = choose (eqb a b) (differencesFrom k a bs) (sub k a b ∷ differencesFrom k a bs)
+
+-- (a − b) mod k over all a of the first list and all b of the second that differ from a
+unfoldable pub differencesBy : ℕ → List ℕ → List ℕ → List ℕ
+differencesBy k [] bs = []
+differencesBy k (a ∷ ps) bs = differencesFrom k a bs ++ differencesBy k ps bs
+
+-- "over all ordered pairs of different positions a, b, the values (a − b) mod k"
+abbrev pub differences : Code → List ℕ
+differences c = differencesBy (c .k) (c .positions) (c .positions)
+
+-- no value stands twice in a list
+unfoldable pub allDifferent : List ℕ → Bool
+allDifferent [] = true
+allDifferent (x ∷ xs) = eqb (count x xs) 0 && allDifferent xs

@@ -1,0 +1,108 @@
+-- The proved set: the worked pages 1 to 10 of document 01 as one table, and one statement that the definitions give what its rows say.
+-- Below them stand case 14 and a page of three checks: no page of 1 to 10 tells a vote by absolute majority, or one taken
+-- from the syndrome as it was at the start of the pass, from the steps of the document.
+use mathlib.Core.Path.{_≡_, refl, ap, _∙_}
+use mathlib.Core.Bool.{Bool, true, false}
+use mathlib.Core.List.{List, [], _∷_, _++_, map}
+use Prim.Native.Nat.{ℕ, _+_, _%_, _<_}
+use native.Mathlib.Nat.{mod-eq-of-lt}
+use native.Mathlib.Omega.{arith}
+use Rattle.model.specs.Symbols.{sub, same, differ, count, distance, sumOver, tabulate, symbolsAt, subtractAt}
+use Rattle.model.specs.Code.{Code, checksBy, checkSumBy, checkSymbol, checkSymbols, codeWord, syndrome, shared, everyBelow, selfOrthogonal, differencesFrom, differencesBy, differences, allDifferent}
+use Rattle.model.specs.Vote.{firstOf, leader, leadCount, otherCount, nextCount, Votes, votes}
+use Rattle.model.specs.Decoder.{State, Counts, estimates, isChange, change, changes, visit, after, changeCount, pass, passes, thresholdsRun, opened, passesOf, run, distanceTo, decodedState, decodedCounts}
+use Rattle.model.specs.Calls.{firstThatApplies, within, positionsFit, allBelow, codeTests, tableTests, pageTests, thresholdTests, tableAnswer, encodeAnswer, stateFits, decodeAnswer, Encoded, encodeOutcome, Decoded, decodeOutcome}
+
+-- A row: a call's inputs, and what it must give.
+data Row : Type 0 where
+  -- the table check's number, and whether the differences of positions are all different
+  table : (c : Code) (answer : ℕ) (different : Bool) → Row
+  -- encode's number and page, from a page of zeros
+  encoded : (c : Code) (u : List ℕ) (given : Encoded) → Row
+  -- decode's number, counts, result, S and D, from buffers of zeros
+  decoded : (c : Code) (thresholds page : List ℕ) (given : Decoded) → Row
+  -- the vote over a list of estimates, and whether it is a change at a threshold
+  voted : (es : List ℕ) (threshold : ℕ) (given : Votes) (changed : Bool) → Row
+
+zeros : ℕ → List ℕ
+zeros n = tabulate n (λ i. 0)
+
+-- the row with what the definitions give for its inputs
+computed : Row → Row
+unfolding firstThatApplies within positionsFit allBelow codeTests tableTests pageTests thresholdTests tableAnswer encodeAnswer stateFits decodeAnswer encodeOutcome decodeOutcome
+    checksBy checkSumBy checkSymbol checkSymbols codeWord syndrome shared everyBelow selfOrthogonal differencesFrom differencesBy allDifferent
+    firstOf leader leadCount otherCount nextCount estimates isChange change changes visit after changeCount pass passes thresholdsRun opened passesOf run distanceTo decodedState decodedCounts
+    sub same differ count distance sumOver tabulate symbolsAt subtractAt zeros
+computed (table c a d) = table c (tableAnswer c) (allDifferent (differences c))
+computed (encoded c u g) = encoded c u (encodeOutcome c u (zeros (c .k + c .k)))
+computed (decoded c ts page g) =
+    decoded c ts page (decodeOutcome c page ts (record { result = zeros (c .k); syndrome = zeros (c .k); difference = zeros (c .k) }))
+computed (voted es t g b) = voted es t (votes es) (isChange t es)
+
+code : ℕ → ℕ → List ℕ → Code
+code q k ps = record { q = q; k = k; positions = ps }
+
+-- "Code A is k = 13 with positions 0, 1, 4, 6."
+codeA : Code
+unfolding code
+codeA = code 256 13 (0 ∷ 1 ∷ 4 ∷ 6 ∷ [])
+
+accepted : List ℕ → Encoded
+accepted page = record { number = 0; page = page }
+
+found : List ℕ → List ℕ → List ℕ → ℕ → ℕ → ℕ → ℕ → Decoded
+found r s d passes changes start end = record {
+  number = 0;
+  counts = record { passes = passes; changes = changes; start = start; end = end };
+  state = record { result = r; syndrome = s; difference = d };
+}
+
+vote : ℕ → ℕ → ℕ → ℕ → Votes
+vote h m0 m1 z = record { leader = h; lead = m0; next = m1; zeros = z }
+
+rows : List Row
+unfolding code codeA accepted found vote zeros tabulate
+rows =
+    -- 1
+    table (code 256 13 (0 ∷ 1 ∷ 4 ∷ 6 ∷ [])) 0 true
+    ∷ table (code 256 12 (0 ∷ 1 ∷ 4 ∷ 6 ∷ [])) 5 false
+    -- 2
+    ∷ table (code 256 7 (0 ∷ 1 ∷ 3 ∷ [])) 0 true
+    ∷ table (code 256 6 (0 ∷ 1 ∷ 3 ∷ [])) 5 false
+    -- 3
+    ∷ table (code 256 1 (0 ∷ [])) 0 true
+    ∷ encoded (code 256 1 (0 ∷ [])) (9 ∷ []) (accepted (9 ∷ 9 ∷ []))
+    -- 4
+    ∷ encoded codeA (7 ∷ zeros 12) (accepted (7 ∷ zeros 12 ++ (7 ∷ 7 ∷ 0 ∷ 0 ∷ 7 ∷ 0 ∷ 7 ∷ zeros 6)))
+    -- 5
+    ∷ encoded codeA (10 ∷ zeros 11 ++ (250 ∷ []))
+    (accepted (10 ∷ zeros 11 ++ (250 ∷ 4 ∷ 10 ∷ 0 ∷ 250 ∷ 10 ∷ 250 ∷ 10 ∷ zeros 5 ++ (250 ∷ []))))
+    -- 6
+    ∷ decoded codeA (2 ∷ 2 ∷ []) (7 ∷ zeros 25) (found (zeros 13) (zeros 13) (249 ∷ zeros 12) 2 1 4 1)
+    -- 7
+    ∷ decoded codeA (3 ∷ 2 ∷ []) (7 ∷ zeros 25) (found (7 ∷ zeros 12) (7 ∷ 7 ∷ 0 ∷ 0 ∷ 7 ∷ 0 ∷ 7 ∷ zeros 6) (zeros 13) 1 0 4 4)
+    -- 8
+    ∷ decoded codeA (0 ∷ []) (zeros 15 ++ (9 ∷ zeros 10)) (found (zeros 13) (0 ∷ 0 ∷ 247 ∷ zeros 10) (zeros 13) 1 0 1 1)
+    -- 9
+    ∷ decoded codeA (0 ∷ 0 ∷ []) (7 ∷ 3 ∷ zeros 24) (found (zeros 13) (zeros 13) (249 ∷ 253 ∷ zeros 11) 2 2 7 2)
+    -- 10
+    ∷ decoded codeA (0 ∷ []) (zeros 13 ++ (251 ∷ 251 ∷ 0 ∷ 0 ∷ 251 ∷ zeros 8))
+    (found (251 ∷ zeros 12) (zeros 6 ++ (251 ∷ zeros 6)) (251 ∷ zeros 12) 1 1 3 2)
+    -- 14
+    ∷ voted (2 ∷ 2 ∷ 1 ∷ 1 ∷ 0 ∷ []) 0 (vote 1 2 2 1) false
+    ∷ voted (7 ∷ 7 ∷ 0 ∷ 9 ∷ 1 ∷ []) 0 (vote 7 2 1 1) true
+    ∷ voted (7 ∷ 7 ∷ 0 ∷ 9 ∷ 1 ∷ []) 1 (vote 7 2 1 1) false
+    -- k = 3, positions 0, 1, all three received checks 251, so s is 5 everywhere: symbol 0 has estimates 0, 5, 5 and changes,
+    -- which leaves s(0) and s(1) 0, so that symbols 1 and 2 have estimates 0, 0, 5 and stay
+    ∷ decoded (code 256 3 (0 ∷ 1 ∷ [])) (0 ∷ []) (zeros 3 ++ (251 ∷ 251 ∷ 251 ∷ []))
+    (found (251 ∷ zeros 2) (0 ∷ 0 ∷ 5 ∷ []) (251 ∷ zeros 2) 1 1 3 2)
+    ∷ []
+
+worked : map computed rows ≡ rows
+unfolding computed rows
+worked = refl
+
+-- Case 3 for every q and every symbol: k = 1, position 0, "the symbol twice".
+twice : (q x : ℕ) → x < q → codeWord (record { q = q; k = 1; positions = 0 ∷ [] }) (x ∷ []) ≡ x ∷ x ∷ []
+unfolding codeWord checkSymbols checkSymbol checkSumBy sumOver tabulate sub
+twice q x h = ap (λ (v : ℕ). x ∷ v ∷ []) (ap (λ (n : ℕ). n % q) (let e : x + 0 ≡ x = omega arith in e) ∙ mod-eq-of-lt h)
