@@ -69,36 +69,33 @@ encodeAnswer c u pageLen = firstThatApplies (pageTests c (eqb (length u) (dataCo
 unfoldable pub syndromeAnswer : Code → List ℕ → ℕ → ℕ
 syndromeAnswer c page syndromeLen = firstThatApplies (pageTests c (eqb (length page) (pageLength c) && eqb syndromeLen (checkCount c)) page)
 
--- the three buffers that decode lends are as long as it needs
-unfoldable pub stateFits : Code → State → Bool
-stateFits c st = eqb (length (st .result)) (dataCount c) && (eqb (length (st .syndrome)) (checkCount c) && eqb (length (st .difference)) (dataCount c))
+-- the lengths of the three buffers that decode lends are those that it needs
+unfoldable pub stateFits : Code → ℕ → ℕ → ℕ → Bool
+stateFits c resultLen syndromeLen differenceLen = eqb resultLen (dataCount c) && (eqb syndromeLen (checkCount c) && eqb differenceLen (dataCount c))
 
 -- decode reads a page and thresholds, and lends the result, S and D
-unfoldable pub decodeAnswer : Code → List ℕ → List ℕ → State → ℕ
-decodeAnswer c page thresholds lent =
-    firstThatApplies (pageTests c (eqb (length page) (pageLength c) && stateFits c lent) page ++ thresholdTests thresholds)
+unfoldable pub decodeAnswer : Code → List ℕ → List ℕ → ℕ → ℕ → ℕ → ℕ
+decodeAnswer c page thresholds resultLen syndromeLen differenceLen =
+    firstThatApplies (pageTests c (eqb (length page) (pageLength c) && stateFits c resultLen syndromeLen differenceLen) page ++ thresholdTests thresholds)
 
 -- ---- what each call leaves: "A refused call alters no lent memory"
 
-pub record Encoded : Type 0 where
+-- a call's number, and what the buffer that it writes holds afterwards
+pub record Written : Type 0 where
   pub number : ℕ
-  pub page : List ℕ
+  pub content : List ℕ
+
+-- of a call whose number is n: what it writes where n is 0, and what was there where not
+unfoldable pub written : ℕ → List ℕ → List ℕ → Written
+written n new old = record { number = n; content = choose (eqb n 0) new old }
 
 -- "Encoding writes the whole page."
-unfoldable pub encodeOutcome : Code → List ℕ → List ℕ → Encoded
-encodeOutcome c u page =
-    let n = encodeAnswer c u (length page) in
-    record { number = n; page = choose (eqb n 0) (codeWord c u) page }
-
-pub record SyndromeGiven : Type 0 where
-  pub number : ℕ
-  pub syndrome : List ℕ
+unfoldable pub encodeOutcome : Code → List ℕ → List ℕ → Written
+encodeOutcome c u page = written (encodeAnswer c u (length page)) (codeWord c u) page
 
 -- "The syndrome call writes S."
-unfoldable pub syndromeOutcome : Code → List ℕ → List ℕ → SyndromeGiven
-syndromeOutcome c page s =
-    let n = syndromeAnswer c page (length s) in
-    record { number = n; syndrome = choose (eqb n 0) (syndrome c page) s }
+unfoldable pub syndromeOutcome : Code → List ℕ → List ℕ → Written
+syndromeOutcome c page s = written (syndromeAnswer c page (length s)) (syndrome c page) s
 
 pub record Decoded : Type 0 where
   pub number : ℕ
@@ -112,7 +109,7 @@ noCounts = record { passes = 0; changes = 0; start = 0; end = 0 }
 -- "Afterwards the lent buffers hold the result, S and D"
 unfoldable pub decodeOutcome : Code → List ℕ → List ℕ → State → Decoded
 decodeOutcome c page thresholds lent =
-    let n = decodeAnswer c page thresholds lent in
+    let n = decodeAnswer c page thresholds (length (lent .result)) (length (lent .syndrome)) (length (lent .difference)) in
     record {
       number = n;
       counts = choose (eqb n 0) (decodedCounts c thresholds page) noCounts;

@@ -13,6 +13,10 @@ pub record Code : Type 0 where
   pub k : ℕ
   pub positions : List ℕ
 
+-- the code of a call's q, k and table
+abbrev pub codeOf : ℕ → ℕ → List ℕ → Code
+codeOf q k positions = record { q = q; k = k; positions = positions }
+
 -- The sizes. k stands for a number of symbols nowhere else.
 abbrev pub dataCount : Code → ℕ
 dataCount c = c .k

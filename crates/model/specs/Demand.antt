@@ -30,8 +30,11 @@ pub record RunFalls (c : Code) (thresholds page : List ℕ) : Type 0 where
   pub falls : Falls (c .q) (checksOf c) (distanceTo c page) (run c thresholds page) (opened c page)
   pub total : distanceTo c page (decodedState c thresholds page) + spent (c .q) (checksOf c) (run c thresholds page) (opened c page) ≤ distanceTo c page (opened c page)
 
--- the second half, of the result that decoding a page hands back: where at most t symbols of a page that encode writes were replaced,
+-- encode takes the data u and writes the page `sent`
+abbrev pub Encodes : Code → List ℕ → List ℕ → Type 0
+Encodes c u sent = (encodeAnswer c u (pageLength c) ≡ 0) × (sent ≡ codeWord c u)
+
+-- the second half, of the result that decoding a page hands back: where the page differs in at most t places from a page that encode writes,
 -- and "2t plus the first pass's threshold is at most J", the result is the data sent
 abbrev pub Recovers : Code → List ℕ → List ℕ → List ℕ → Type 0
-Recovers c thresholds page result = (u : List ℕ) (t : ℕ) → encodeAnswer c u (pageLength c) ≡ 0
-    → distance (codeWord c u) page ≤ t → t + t + getD thresholds 0 0 ≤ length (c .positions) → result ≡ u
+Recovers c thresholds page result = (u sent : List ℕ) (t : ℕ) → Encodes c u sent → distance sent page ≤ t → t + t + getD thresholds 0 0 ≤ length (c .positions) → result ≡ u

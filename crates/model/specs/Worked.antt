@@ -8,17 +8,17 @@ use Prim.Native.Nat.{ℕ, _+_, _%_, _<_}
 use native.Mathlib.Nat.{mod-eq-of-lt}
 use native.Mathlib.Omega.{arith}
 use Rattle.model.specs.Symbols.{sub, same, differ, count, distance, sumOver, tabulate, symbolsAt, subtractAt}
-use Rattle.model.specs.Code.{Code, checksBy, checkSumBy, checkSymbol, checkSymbols, codeWord, syndrome, shared, everyBelow, selfOrthogonal, differencesFrom, differencesBy, differences, allDifferent}
+use Rattle.model.specs.Code.{Code, codeOf, checksBy, checkSumBy, checkSymbol, checkSymbols, codeWord, syndrome, shared, everyBelow, selfOrthogonal, differencesFrom, differencesBy, differences, allDifferent}
 use Rattle.model.specs.Vote.{firstOf, leader, leadCount, otherCount, nextCount, Votes, votes}
 use Rattle.model.specs.Decoder.{State, Counts, estimates, isChange, change, changes, visit, after, changeCount, pass, passes, thresholdsRun, opened, passesOf, run, distanceTo, decodedState, decodedCounts}
-use Rattle.model.specs.Calls.{firstThatApplies, within, positionsFit, allBelow, codeTests, tableTests, pageTests, thresholdTests, tableAnswer, encodeAnswer, stateFits, decodeAnswer, Encoded, encodeOutcome, Decoded, decodeOutcome}
+use Rattle.model.specs.Calls.{firstThatApplies, within, positionsFit, allBelow, codeTests, tableTests, pageTests, thresholdTests, tableAnswer, encodeAnswer, stateFits, decodeAnswer, Written, written, encodeOutcome, Decoded, decodeOutcome}
 
 -- A row: a call's inputs, and what it must give.
 data Row : Type 0 where
   -- the table check's number, and whether the differences of positions are all different
   table : (c : Code) (answer : ℕ) (different : Bool) → Row
   -- encode's number and page, from a page of zeros
-  encoded : (c : Code) (u : List ℕ) (given : Encoded) → Row
+  encoded : (c : Code) (u : List ℕ) (given : Written) → Row
   -- decode's number, counts, result, S and D, from buffers of zeros
   decoded : (c : Code) (thresholds page : List ℕ) (given : Decoded) → Row
   -- the vote over a list of estimates, and whether it is a change at a threshold
@@ -29,7 +29,7 @@ zeros n = tabulate n (λ i. 0)
 
 -- the row with what the definitions give for its inputs
 computed : Row → Row
-unfolding firstThatApplies within positionsFit allBelow codeTests tableTests pageTests thresholdTests tableAnswer encodeAnswer stateFits decodeAnswer encodeOutcome decodeOutcome
+unfolding firstThatApplies within positionsFit allBelow codeTests tableTests pageTests thresholdTests tableAnswer encodeAnswer stateFits decodeAnswer written encodeOutcome decodeOutcome
     checksBy checkSumBy checkSymbol checkSymbols codeWord syndrome shared everyBelow selfOrthogonal differencesFrom differencesBy allDifferent
     firstOf leader leadCount otherCount nextCount estimates isChange change changes visit after changeCount pass passes thresholdsRun opened passesOf run distanceTo decodedState decodedCounts
     sub same differ count distance sumOver tabulate symbolsAt subtractAt zeros
@@ -39,16 +39,12 @@ computed (decoded c ts page g) =
     decoded c ts page (decodeOutcome c page ts (record { result = zeros (c .k); syndrome = zeros (c .k); difference = zeros (c .k) }))
 computed (voted es t g b) = voted es t (votes es) (isChange t es)
 
-code : ℕ → ℕ → List ℕ → Code
-code q k ps = record { q = q; k = k; positions = ps }
-
 -- "Code A is k = 13 with positions 0, 1, 4, 6."
 codeA : Code
-unfolding code
-codeA = code 256 13 (0 ∷ 1 ∷ 4 ∷ 6 ∷ [])
+codeA = codeOf 256 13 (0 ∷ 1 ∷ 4 ∷ 6 ∷ [])
 
-accepted : List ℕ → Encoded
-accepted page = record { number = 0; page = page }
+accepted : List ℕ → Written
+accepted page = record { number = 0; content = page }
 
 found : List ℕ → List ℕ → List ℕ → ℕ → ℕ → ℕ → ℕ → Decoded
 found r s d passes changes start end = record {
@@ -61,17 +57,17 @@ vote : ℕ → ℕ → ℕ → ℕ → Votes
 vote h m0 m1 z = record { leader = h; lead = m0; next = m1; zeros = z }
 
 rows : List Row
-unfolding code codeA accepted found vote zeros tabulate
+unfolding codeA accepted found vote zeros tabulate
 rows =
     -- 1
-    table (code 256 13 (0 ∷ 1 ∷ 4 ∷ 6 ∷ [])) 0 true
-    ∷ table (code 256 12 (0 ∷ 1 ∷ 4 ∷ 6 ∷ [])) 5 false
+    table (codeOf 256 13 (0 ∷ 1 ∷ 4 ∷ 6 ∷ [])) 0 true
+    ∷ table (codeOf 256 12 (0 ∷ 1 ∷ 4 ∷ 6 ∷ [])) 5 false
     -- 2
-    ∷ table (code 256 7 (0 ∷ 1 ∷ 3 ∷ [])) 0 true
-    ∷ table (code 256 6 (0 ∷ 1 ∷ 3 ∷ [])) 5 false
+    ∷ table (codeOf 256 7 (0 ∷ 1 ∷ 3 ∷ [])) 0 true
+    ∷ table (codeOf 256 6 (0 ∷ 1 ∷ 3 ∷ [])) 5 false
     -- 3
-    ∷ table (code 256 1 (0 ∷ [])) 0 true
-    ∷ encoded (code 256 1 (0 ∷ [])) (9 ∷ []) (accepted (9 ∷ 9 ∷ []))
+    ∷ table (codeOf 256 1 (0 ∷ [])) 0 true
+    ∷ encoded (codeOf 256 1 (0 ∷ [])) (9 ∷ []) (accepted (9 ∷ 9 ∷ []))
     -- 4
     ∷ encoded codeA (7 ∷ zeros 12) (accepted (7 ∷ zeros 12 ++ (7 ∷ 7 ∷ 0 ∷ 0 ∷ 7 ∷ 0 ∷ 7 ∷ zeros 6)))
     -- 5
@@ -94,7 +90,7 @@ rows =
     ∷ voted (7 ∷ 7 ∷ 0 ∷ 9 ∷ 1 ∷ []) 1 (vote 7 2 1 1) false
     -- k = 3, positions 0, 1, all three received checks 251, so s is 5 everywhere: symbol 0 has estimates 0, 5, 5 and changes,
     -- which leaves s(0) and s(1) 0, so that symbols 1 and 2 have estimates 0, 0, 5 and stay
-    ∷ decoded (code 256 3 (0 ∷ 1 ∷ [])) (0 ∷ []) (zeros 3 ++ (251 ∷ 251 ∷ 251 ∷ []))
+    ∷ decoded (codeOf 256 3 (0 ∷ 1 ∷ [])) (0 ∷ []) (zeros 3 ++ (251 ∷ 251 ∷ 251 ∷ []))
     (found (251 ∷ zeros 2) (0 ∷ 0 ∷ 5 ∷ []) (251 ∷ zeros 2) 1 1 3 2)
     ∷ []
 
@@ -103,6 +99,6 @@ unfolding computed rows
 worked = refl
 
 -- Case 3 for every q and every symbol: k = 1, position 0, "the symbol twice".
-twice : (q x : ℕ) → x < q → codeWord (record { q = q; k = 1; positions = 0 ∷ [] }) (x ∷ []) ≡ x ∷ x ∷ []
+twice : (q x : ℕ) → x < q → codeWord (codeOf q 1 (0 ∷ [])) (x ∷ []) ≡ x ∷ x ∷ []
 unfolding codeWord checkSymbols checkSymbol checkSumBy sumOver tabulate sub
 twice q x h = ap (λ (v : ℕ). x ∷ v ∷ []) (ap (λ (n : ℕ). n % q) (let e : x + 0 ≡ x = omega arith in e) ∙ mod-eq-of-lt h)

@@ -261,25 +261,3 @@ pub distance-same : (xs : List ℕ) → distance xs xs ≡ 0
 unfolding distance
 distance-same [] = refl
 distance-same (x ∷ xs) = omega (arith, distance-same xs, differ-no x x refl)
-
-pub differ-sym : (a b : ℕ) → differ a b ≡ differ b a
-differ-sym a b = differ-iff a b b a (λ e. sym e) (λ e. sym e)
-
-pub distance-sym : (xs ys : List ℕ) → distance xs ys ≡ distance ys xs
-unfolding distance
-distance-sym [] [] = refl
-distance-sym [] (y ∷ ys) = refl
-distance-sym (x ∷ xs) [] = refl
-distance-sym (x ∷ xs) (y ∷ ys) = omega (arith, distance-sym xs ys, differ-sym x y)
-
-pub differ-tri : (a b c : ℕ) → differ a c ≤ differ a b + differ b c
-differ-tri a b c = elim (ℕ-discrete a b) as (λ o. differ a c ≤ differ a b + differ b c)
-    [ yes e ↦ rw e (omega arith) | no n ↦ omega (arith, differ-yes a b n, differ-le a c) ]
-
-pub distance-tri : (xs ys zs : List ℕ) → length xs ≡ length ys → length ys ≡ length zs → distance xs zs ≤ distance xs ys + distance ys zs
-unfolding distance
-distance-tri [] [] zs e f = omega arith
-distance-tri [] (y ∷ ys) zs e f = absurd (suc-ne-zero (length ys) (sym e))
-distance-tri (x ∷ xs) [] zs e f = absurd (suc-ne-zero (length xs) e)
-distance-tri (x ∷ xs) (y ∷ ys) [] e f = absurd (suc-ne-zero (length ys) f)
-distance-tri (x ∷ xs) (y ∷ ys) (z ∷ zs) e f = omega (arith, distance-tri xs ys zs (suc-inj e) (suc-inj f), differ-tri x y z)

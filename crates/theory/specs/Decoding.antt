@@ -6,7 +6,7 @@ use Prim.Native.Nat.{ℕ, zero, suc, _+_, _%_, _≤_, _<_}
 use native.Mathlib.Nat.{not-suc-le-zero, le-of-suc-le-suc}
 use native.Mathlib.Decide.{ℕ-discrete}
 use native.Mathlib.Omega.{arith}
-use lib.ListN.{length, getD, take, drop}
+use lib.ListN.{length, getD, take, drop, take-append-drop}
 use Rattle.model.specs.Code.{Code, dataCount, checkCount, pageLength, checksOf, checkSumBy, checkSymbol, checkSymbols, codeWord, syndrome, shared, SelfOrthogonal}
 use Rattle.model.specs.Decoder.{State, Visit, visit, after, changeCount, pass, passes, dataSymbols, opened, passesOf, run, distanceTo, decodedState}
 use Rattle.model.specs.Demand.{Falls, RunFalls}
@@ -14,11 +14,11 @@ use Rattle.model.specs.Symbols.{sub, count, distance, tabulate}
 use Rattle.theory.specs.Answers.{Limits}
 use Rattle.theory.specs.Circulant.{table-sum, length-checksBy, inside-checksBy, apart-checksBy}
 use Rattle.theory.specs.Counting.{same-yes, same-no, count-nil, count-cons, All}
-use Rattle.theory.specs.Distance.{tabulate-ext, checkSymbolsOf, wordOf}
-use Rattle.theory.specs.Falling.{Incidence, InRange, falls, falls-spent}
-use Rattle.theory.specs.Page.{openedBy, page-falls, page-recovers}
+use Rattle.theory.specs.Distance.{tabulate-ext, checkSymbolsOf, wordOf, Received, page-distance}
+use Rattle.theory.specs.Falling.{Incidence, InRange, falls, after-sized, after-tied, falls-spent}
+use Rattle.theory.specs.Page.{openedBy, received, opened-sized, opened-tied, page-falls, page-recovers}
 use Rattle.theory.specs.Recovery.{Covered}
-use Rattle.theory.specs.Steps.{checkSum, SymbolsBelow}
+use Rattle.theory.specs.Steps.{checkSum, SymbolsBelow, Sized, stateWeight}
 use Rattle.theory.specs.Tables.{rising-facts}
 
 -- ---- lists of visits
@@ -38,7 +38,7 @@ range-append : (m : ℕ) (vs ws : List Visit) → InRange m vs → InRange m ws 
 range-append m [] ws a b = b
 range-append m (v ∷ vs) ws a b = (a .0, range-append m vs ws (a .1) b)
 
-range-pass : (m : ℕ) (js : List ℕ) (t : ℕ) → All (λ j. j < m) js → InRange m (pass js t)
+pub range-pass : (m : ℕ) (js : List ℕ) (t : ℕ) → All (λ j. j < m) js → InRange m (pass js t)
 unfolding pass
 range-pass m [] t a = tt
 range-pass m (j ∷ js) t a = (a .0, range-pass m js t (a .1))
@@ -106,7 +106,7 @@ module _ (c : Code) (l : Limits c) where
   }
 
   module _ (o : SelfOrthogonal c) (page : List ℕ) (whole : SymbolsBelow (c .q) (pageLength c) page) (ts : List ℕ) where
-    in-range : InRange (dataCount c) (run c ts page)
+    pub in-range : InRange (dataCount c) (run c ts page)
     unfolding run
     in-range = range-passes (dataCount c) (dataSymbols c) (symbols-range c) (passesOf c ts page)
 
@@ -121,6 +121,23 @@ module _ (c : Code) (l : Limits c) where
         let f : Falls (c .q) (checksOf c) (distanceTo c page) (run c ts page) (opened c page) =
         rw (code-opened page, distance-of) (page-falls (code-incidence c l o) whole (run c ts page) in-range) in
         record { falls = f; total = falls-spent (c .q) (checksOf c) (distanceTo c page) (run c ts page) (opened c page) f }
+
+    -- the state at the start, and after any visits: its symbols are below q, and its distance is the number of nonzero symbols of S and D
+    pub code-opened-sized : Sized (c .q) (dataCount c) (checkCount c) (opened c page)
+    code-opened-sized = rw (code-opened page) (opened-sized (code-incidence c l o) whole)
+
+    pub code-distance : (vs : List Visit) → InRange (dataCount c) vs → distanceTo c page (after (c .q) (checksOf c) vs (opened c page)) ≡ stateWeight (after (c .q) (checksOf c) vs (opened c page))
+    code-distance vs r =
+        let inc = code-incidence c l o in
+        let st : State = openedBy (c .q) (dataCount c) (checkCount c) (checksOf c) page in
+        let x : List ℕ = take (dataCount c) page in
+        let y : List ℕ = drop (dataCount c) page in
+        let z : Sized (c .q) (dataCount c) (checkCount c) st = opened-sized inc whole in
+        let got : Received (c .q) (dataCount c) (checkCount c) x y = received (c .q) (dataCount c) (checkCount c) (inc .pos) page whole in
+        rw (code-opened page, distance-of)
+        (ap (λ (p : List ℕ). distance (wordOf (c .q) (dataCount c) (checkCount c) (checksOf c) (after (c .q) (checksOf c) vs st .result)) p) (sym (take-append-drop (dataCount c) page))
+        ∙ page-distance (c .q) (dataCount c) (checkCount c) (inc .pos) (checksOf c) x y got (after (c .q) (checksOf c) vs st)
+        (after-sized inc vs st z) (after-tied inc got vs r st z (opened-tied inc whole)))
 
     -- demand 3, second half
     pub code-recovers : (h : ℕ) (more : List ℕ) → passesOf c ts page ≡ h ∷ more → (u : List ℕ) → SymbolsBelow (c .q) (dataCount c) u → (t : ℕ)

@@ -11,10 +11,10 @@ use lib.Dec.{T, T-not}
 use lib.ListN.{length, getD}
 use lib.Seq.{getD-set-same, getD-set-other, ext-getD}
 use Rattle.model.specs.Code.{syndrome, shared}
-use Rattle.model.specs.Decoder.{State, Visit, estimates, isChange, change, changes, visit, after, changeCount}
-use Rattle.model.specs.Symbols.{choose, sub, bit, differ, count, distance, sumOver, tabulate}
+use Rattle.model.specs.Decoder.{State, Visit, estimates, isChange, change, changes, visit, after}
+use Rattle.model.specs.Symbols.{choose, sub, differ, count, distance, sumOver, tabulate}
 use Rattle.model.specs.Vote.{leader, votes}
-use Rattle.theory.specs.Counting.{differ-no, differ-yes, length-symbolsAt, sumBelow, sum-ext, sum-le, sum-off, sum-term, sumOver-le, sumOver-add, sumOver-swap, sumOver-scale, distance-sum, differ-le, distinct-count, sumOver-sub, all-of, all-at, misses, misses-symbolsAt, distance-set}
+use Rattle.theory.specs.Counting.{differ-no, differ-yes, length-symbolsAt, sumBelow, sum-ext, sum-le, sum-off, sum-term, sumOver-le, sumOver-add, sumOver-swap, sumOver-scale, distance-sum, differ-le, distinct-count, sumOver-sub, all-of, all-at, misses, misses-symbolsAt}
 use Rattle.theory.specs.Distance.{length-tabulate, getD-tabulate, checkSymbolsOf, Tied, Received}
 use Rattle.theory.specs.Falling.{Incidence, InRange, choose-case, isChange-make, isChange-zero, visit-sized, visit-tied}
 use Rattle.theory.specs.Modulo.{by-eq, sub-self, sub-zero-eq, sub-cross, sub-sub}
@@ -172,9 +172,6 @@ module _ {q m k J : ℕ} {checks : ℕ → List ℕ} {u x y : List ℕ} (sent : 
         ∙ ap (λ (z : ℕ). sub q (getD (st .result) j 0) z) leader-error
         ∙ sub-sub q (sent .inc .pos) (getD (st .result) j 0) (getD u j 0) (fits .sized .in-result j) (sent .word .low j)
 
-    pub change-wrong : (h : ℕ) → T (isChange h (estimates (checks j) j st)) → getD (st .result) j 0 ≢ getD u j 0
-    change-wrong h c e = subst T (right-stays e h) c
-
 -- a visit leaves the other symbols
 pub visit-other : (q : ℕ) (checks : ℕ → List ℕ) (v : Visit) (st : State) (l : ℕ) → l ≢ v .symbol → getD (visit q checks v st .result) l 0 ≡ getD (st .result) l 0
 unfolding visit changes change
@@ -271,50 +268,3 @@ module _ {q m k J : ℕ} {checks : ℕ → List ℕ} {u x y : List ℕ} (sent : 
       let g = after-fits vs r st f in
       ext-getD 0 (after q checks vs st .result) u (g .sized .len-result ∙ sym (sent .word .len))
       (λ i l. after-restores vs r st f i (inl (c i (subst (λ (n : ℕ). i < n) (g .sized .len-result) l))))
-
-  -- and once the result is what was sent, no visit at any threshold alters anything
-  pub rests : (vs : List Visit) → InRange m vs → (st : State) → Fits q m k checks u x y st → st .result ≡ u → after q checks vs st ≡ st
-  unfolding after
-  rests [] r st f e = refl
-  rests (v ∷ vs) r st f e =
-      let s : visit q checks v st ≡ st = settled v (r .0) st f (ap (λ (l : List ℕ). getD l (v .symbol) 0) e) in
-      ap (λ (w : State). after q checks vs w) s ∙ rests vs (r .1) st f e
-
-  -- the changes number the symbols that they restore
-  visit-changes : (v : Visit) → v .symbol < m → (st : State) → Fits q m k checks u x y st → bit (changes checks v st) + distance (visit q checks v st .result) u ≡ distance (st .result) u
-  unfolding visit changes change
-  visit-changes v hj st f =
-      let j : ℕ = v .symbol in
-      let es : List ℕ = estimates (checks j) j st in
-      choose-case (λ b s. bit b + distance (s .result) u ≡ distance (st .result) u) (isChange (v .threshold) es) (change q (checks j) j (leader es) st) st
-      (λ c. omega (
-        arith,
-        distance-set (st .result) u j (sub q (getD (st .result) j 0) (leader es)) (rw (f .sized .len-result) hj) (f .sized .len-result ∙ sym (sent .word .len)),
-        differ-yes (getD (st .result) j 0) (getD u j 0) (change-wrong sent st f j hj t few room (v .threshold) c),
-        differ-no (sub q (getD (st .result) j 0) (leader es)) (getD u j 0)
-            (sym (getD-set-same (st .result) j (sub q (getD (st .result) j 0) (leader es)) 0 (rw (f .sized .len-result) hj))
-            ∙ change-restores sent st f j hj t few room),
-      ))
-      (λ c. omega arith)
-
-  pub after-changes : (vs : List Visit) → InRange m vs → (st : State) → Fits q m k checks u x y st
-      → changeCount q checks vs st + distance (after q checks vs st .result) u ≡ distance (st .result) u
-  unfolding after changeCount
-  after-changes [] r st f = omega arith
-  after-changes (v ∷ vs) r st f = omega (arith, visit-changes v (r .0) st f, after-changes vs (r .1) (visit q checks v st) (visit-fits v (r .0) st f))
-
--- ---- a state is settled by its result
-
-pub state-eq : (a b : State) → a .result ≡ b .result → a .syndrome ≡ b .syndrome → a .difference ≡ b .difference → a ≡ b
-state-eq a b r s d = λ i. record { result = r i; syndrome = s i; difference = d i }
-
-pub tied-unique : (q m k : ℕ) (checks : ℕ → List ℕ) (x y : List ℕ) (a b : State) → Sized q m k a → Sized q m k b → Tied q m k checks x y a → Tied q m k checks x y b
-    → a .result ≡ b .result → a ≡ b
-tied-unique q m k checks x y a b za zb ta tb e =
-    state-eq a b e
-    (ext-getD 0 (a .syndrome) (b .syndrome) (za .len-syndrome ∙ sym (zb .len-syndrome)) (λ i l.
-    let h : i < k = subst (λ (n : ℕ). i < n) (za .len-syndrome) l in
-    ta .syndrome-is i h ∙ ap (λ (r : List ℕ). sub q (checkSum m checks r i % q) (getD y i 0)) e ∙ sym (tb .syndrome-is i h)))
-    (ext-getD 0 (a .difference) (b .difference) (za .len-difference ∙ sym (zb .len-difference)) (λ i l.
-    let h : i < m = subst (λ (n : ℕ). i < n) (za .len-difference) l in
-    ta .difference-is i h ∙ ap (λ (r : List ℕ). sub q (getD r i 0) (getD x i 0)) e ∙ sym (tb .difference-is i h)))

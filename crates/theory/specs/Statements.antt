@@ -1,21 +1,22 @@
 -- The statements that a reviewer reads. Their proofs stand in the other files.
-use mathlib.Core.Path.{_≡_, refl}
+use mathlib.Core.Path.{_≡_, refl, subst}
 use mathlib.Core.Logic.{_≢_, _↔_}
 use mathlib.Core.Bool.{true, _&&_}
-use mathlib.Core.List.{List, [], _∷_}
+use mathlib.Core.List.{List, [], _∷_, _++_}
 use Prim.Native.Nat.{ℕ, _≤_, _<_}
 use native.Mathlib.Omega.{arith}
 use lib.Dec.{eqb}
 use lib.ListN.{length}
 use Rattle.model.specs.Calls.{tableAnswer, encodeAnswer, decodeAnswer}
 use Rattle.model.specs.Code.{Code, dataCount, checkCount, pageLength, checksOf, SelfOrthogonal, differences, allDifferent}
-use Rattle.model.specs.Decoder.{State, passes, thresholdsRun, dataSymbols, passesOf, decodedState}
-use Rattle.model.specs.Demand.{Falls, RunFalls, Recovers}
-use Rattle.model.specs.Symbols.{count}
+use Rattle.model.specs.Decoder.{State, Visit, after, passes, thresholdsRun, dataSymbols, opened, passesOf, run, distanceTo, decodedState}
+use Rattle.model.specs.Demand.{VisitFalls, Falls, RunFalls, Recovers}
+use Rattle.model.specs.Symbols.{count, distance}
 use Rattle.model.specs.Vote.{leader, leadCount, nextCount}
 use Rattle.theory.specs.Answers.{Limits, table-accepted, table-accepts, page-accepted, decode-accepted, page-symbols, data-symbols}
 use Rattle.theory.specs.Decoding.{range-passes, symbols-range, code-incidence, code-falls, code-recovers}
-use Rattle.theory.specs.Falling.{weight-falls}
+use Rattle.theory.specs.Falling.{falls, weight-falls, falls-at}
+use Rattle.theory.specs.Page.{sent}
 use Rattle.theory.specs.Steps.{Sized, stateWeight}
 use Rattle.theory.specs.Tables.{orthogonal-test, orthogonal-differences}
 use Rattle.theory.specs.Voting.{leader-ahead, lead-max, next-max, next-least, leader-mem}
@@ -37,10 +38,17 @@ by-differences c l = orthogonal-differences c (l .k-low) (l .rising)
 
 -- For every input that decode takes: every visit of the run, in its place, falls, and the total is at most the distance at the start.
 -- What decode hands back is what this run leaves (decodedState), with its changes counted (decodedCounts), by definition.
-pub run-falls : (c : Code) (page thresholds : List ℕ) (lent : State) → decodeAnswer c page thresholds lent ≡ 0 → RunFalls c thresholds page
-run-falls c page ts lent e =
-    let f = decode-accepted c page ts lent e in
-    code-falls c (f .fits .limits) (orthogonal-test c .0 (f .fits .orthogonal)) page (page-symbols c page lent (f .fits)) ts
+pub run-falls : (c : Code) (page thresholds : List ℕ) (r s d : ℕ) → decodeAnswer c page thresholds r s d ≡ 0 → RunFalls c thresholds page
+run-falls c page ts r s d e =
+    let f = decode-accepted c page ts r s d e in
+    code-falls c (f .fits .limits) (orthogonal-test c .0 (f .fits .orthogonal)) page (page-symbols c page r s d (f .fits)) ts
+
+-- Any visit of the run, from the state that the visits before it leave.
+pub visit-falls : (c : Code) (page thresholds : List ℕ) (r s d : ℕ) → decodeAnswer c page thresholds r s d ≡ 0 → (vs : List Visit) (v : Visit) (ws : List Visit)
+    → run c thresholds page ≡ vs ++ v ∷ ws → VisitFalls (c .q) (checksOf c) (distanceTo c page) v (after (c .q) (checksOf c) vs (opened c page))
+visit-falls c page ts r s d e vs v ws split =
+    falls-at (c .q) (checksOf c) (distanceTo c page) vs v ws (opened c page)
+    (subst (λ (us : List Visit). Falls (c .q) (checksOf c) (distanceTo c page) us (opened c page)) split (run-falls c page ts r s d e .falls))
 
 -- ---- 3. the same for S and D of any content in range
 
@@ -55,15 +63,15 @@ weight-falls-on c e st z ts =
 
 -- For every input that decode takes: where the page is within t places of a page that encode writes, and 2t plus the first threshold is at
 -- most J, the result is the data sent, whatever the later thresholds.
-pub recovers-sent : (c : Code) (page thresholds : List ℕ) (lent : State) → decodeAnswer c page thresholds lent ≡ 0
+pub recovers-sent : (c : Code) (page thresholds : List ℕ) (r s d : ℕ) → decodeAnswer c page thresholds r s d ≡ 0
     → Recovers c thresholds page (decodedState c thresholds page .result)
 unfolding passesOf thresholdsRun encodeAnswer
-recovers-sent c page [] lent e u t taken few room = absurd (omega (arith, decode-accepted c page [] lent e .some))
-recovers-sent c page (h ∷ ts) lent e u t taken few room =
-    let f = decode-accepted c page (h ∷ ts) lent e in
-    let g = page-accepted c (eqb (length u) (dataCount c) && eqb (pageLength c) (pageLength c)) u taken in
-    code-recovers c (f .fits .limits) (orthogonal-test c .0 (f .fits .orthogonal)) page (page-symbols c page lent (f .fits)) (h ∷ ts) h _ refl
-    u (data-symbols c u g) t few room
+recovers-sent c page [] r s d e u sent t taken few room = absurd (omega (arith, decode-accepted c page [] r s d e .some))
+recovers-sent c page (h ∷ ts) r s d e u sent t taken few room =
+    let f = decode-accepted c page (h ∷ ts) r s d e in
+    let g = page-accepted c (eqb (length u) (dataCount c) && eqb (pageLength c) (pageLength c)) u (taken .0) in
+    code-recovers c (f .fits .limits) (orthogonal-test c .0 (f .fits .orthogonal)) page (page-symbols c page r s d (f .fits)) (h ∷ ts) h _ refl
+    u (data-symbols c u g) t (subst (λ (p : List ℕ). distance p page ≤ t) (taken .1) few) room
 
 -- ---- 5. the vote
 

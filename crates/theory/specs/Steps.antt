@@ -27,12 +27,6 @@ pub record SymbolsBelow (q n : ℕ) (s : List ℕ) : Type 0 where
   pub len : length s ≡ n
   pub low : Below q s
 
--- from the bound at each index of the list, as code has it
-pub below-of : (q : ℕ) → zero < q → (s : List ℕ) → ((i : ℕ) → i < length s → getD s i 0 < q) → Below q s
-below-of q pos [] h i = pos
-below-of q pos (x ∷ xs) h zero = h 0 (omega arith)
-below-of q pos (x ∷ xs) h (suc i) = below-of q pos xs (λ l b. h (suc l) (omega arith)) i
-
 pub below-set : (q : ℕ) (s : List ℕ) (i v : ℕ) → v < q → Below q s → Below q (set s i v)
 below-set q [] i v h b n = b n
 below-set q (x ∷ xs) zero v h b zero = h
