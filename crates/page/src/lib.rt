@@ -1,0 +1,119 @@
+// Encode and syndrome: the calls, and the writing of checks and of a syndrome that they and decode share.
+ghost use mathlib.Core.Path.{_≡_};
+ghost use mathlib.Core.Bool.{_&&_};
+ghost use Prim.Native.Nat.{_+_};
+ghost use lib.Dec.{eqb};
+ghost use lib.ListN.{length};
+ghost use Rattle.model.specs.Symbols.{Below, tabulate};
+ghost use Rattle.model.specs.Code.{codeOf, checkSymbols, codeWord, syndrome};
+ghost use Rattle.model.specs.Calls.{firstThatApplies, pageTests, encodeOutcome, syndromeOutcome};
+ghost use Rattle.model.specs.Demand.{Encodes};
+ghost use Rattle.theory.specs.Answers.{Limits};
+
+// Two lengths are as a call needs them.
+pub fn two_fit(a: usize, m: usize, b: usize, n: usize) -> bool
+    ensures { λ r. ⌜ r ≡ (eqb a m && eqb b n) ⌝ }
+{
+    if a != m {
+        return false;
+    }
+    b == n
+}
+
+// The number of the first test that applies, of a call whose buffers fit or not and whose input is lent: 1 to 7, or 0.
+pub fn page_answer(q: u32, k: u32, positions: &[u16], fits: bool, input: &[u8]) -> u32
+    ensures { λ r. ⌜ r ≡ firstThatApplies (pageTests (codeOf q k (now (positions .entry))) fits (now (input .entry))) ⌝ }
+{
+    let number = table::check_table(q, k, positions);
+    if number != 0 {
+        return number;
+    }
+    if !fits {
+        return 6;
+    }
+    if !symbols::all_below(q, input) {
+        return 7;
+    }
+    0
+}
+
+// The check symbols of the data, from checks that are all 0: each position adds the data turned by it.
+fn add_checks(q: u32, positions: &[u16], data: &[u8], checks: &mut [u8])
+    requires { ⌜ Limits (codeOf q (length (now «data»)) (now positions)) × Below q (now «data») × (now checks ≡ tabulate (length (now «data»)) (λ i. 0)) ⌝ }
+    ensures { λ _. ⌜ now (checks .exit) ≡ checkSymbols (codeOf q (length (now («data» .entry))) (now (positions .entry))) (now («data» .entry)) ⌝ }
+{
+    let mut n = 0;
+    while n < positions.len() {
+        let p = positions[n] as usize;
+        symbols::add_rotated(q, p, checks, data);
+        n += 1;
+    }
+}
+
+// The check symbols of the data.
+pub fn write_checks(q: u32, positions: &[u16], data: &[u8], checks: &mut [u8])
+    requires { ⌜ Limits (codeOf q (length (now «data»)) (now positions)) × Below q (now «data») × (length (now checks) ≡ length (now «data»)) ⌝ }
+    ensures { λ _. ⌜ now (checks .exit) ≡ checkSymbols (codeOf q (length (now («data» .entry))) (now (positions .entry))) (now («data» .entry)) ⌝ }
+{
+    symbols::clear(checks);
+    add_checks(q, positions, data, checks);
+}
+
+// The page of the data: the data, then its checks.
+fn write_page(q: u32, positions: &[u16], data: &[u8], page: &mut [u8])
+    requires { ⌜ Limits (codeOf q (length (now «data»)) (now positions)) × Below q (now «data») × (length (now page) ≡ length (now «data») + length (now «data»)) ⌝ }
+    ensures { λ _. ⌜ now (page .exit) ≡ codeWord (codeOf q (length (now («data» .entry))) (now (positions .entry))) (now («data» .entry)) ⌝ }
+{
+    let k = data.len();
+    symbols::copy_into(&mut page[..k], data);
+    write_checks(q, positions, data, &mut page[k..]);
+}
+
+// The syndrome of a page: the checks of its data less its checks.
+pub fn write_syndrome(q: u32, positions: &[u16], page: &[u8], s: &mut [u8])
+    requires { ⌜ Limits (codeOf q (length (now s)) (now positions)) × Below q (now page) × (length (now page) ≡ length (now s) + length (now s)) ⌝ }
+    ensures { λ _. ⌜ now (s .exit) ≡ syndrome (codeOf q (length (now (s .entry))) (now (positions .entry))) (now (page .entry)) ⌝ }
+{
+    let k = s.len();
+    write_checks(q, positions, &page[..k], s);
+    symbols::sub_into(q, s, &page[k..]);
+}
+
+// Writes the page of the data.
+pub fn encode(q: u32, k: u32, positions: &[u16], data: &[u8], page: &mut [u8]) -> u32
+    ensures outcome { λ r. ⌜ record { number = r; content = now (page .exit) } ≡ encodeOutcome (codeOf q k (now (positions .entry))) (now («data» .entry)) (now (page .entry)) ⌝ }
+    ensures word { λ r. ⌜ (r ≡ 0 → Encodes (codeOf q k (now (positions .entry))) (now («data» .entry)) (now (page .exit))) ⌝ }
+{
+    let n = k as usize;
+    let number = page_answer(
+        q,
+        k,
+        positions,
+        two_fit(data.len(), n, page.len(), n + n),
+        data,
+    );
+    if number != 0 {
+        return number;
+    }
+    write_page(q, positions, data, page);
+    0
+}
+
+// Writes the syndrome of a page.
+pub fn syndrome(q: u32, k: u32, positions: &[u16], page: &[u8], s: &mut [u8]) -> u32
+    ensures { λ r. ⌜ record { number = r; content = now (s .exit) } ≡ syndromeOutcome (codeOf q k (now (positions .entry))) (now (page .entry)) (now (s .entry)) ⌝ }
+{
+    let n = k as usize;
+    let number = page_answer(
+        q,
+        k,
+        positions,
+        two_fit(page.len(), n + n, s.len(), n),
+        page,
+    );
+    if number != 0 {
+        return number;
+    }
+    write_syndrome(q, positions, page, s);
+    0
+}

@@ -1,0 +1,3 @@
+-- What the contracts of the visits and passes cite, and their laws.
+pub mod Visits
+pub mod Progress

@@ -1,0 +1,51 @@
+-- `symbols::add_into` meets its contract. Assumes nothing.
+use mathlib.Core.Path.{ap, _∙_}
+use Prim.Native.Nat.{ℕ}
+use native.Mathlib.Omega.{arith}
+use Rattle.model.specs.Symbols.{addEach}
+use borrow.Author.Needs.{needs}
+use Rattle.symbols.proofs.add_into.Statement.{statement}
+use Rattle.symbols.proofs.add_into.Tie as tie
+
+add-bytes-requires : tie.Need-add-bytes-requires
+add-bytes-requires c κs = search needs
+
+sub-add-symbols : tie.Need-sub-add-symbols
+sub-add-symbols c = search needs
+
+cast-add-symbols : tie.Need-cast-add-symbols
+cast-add-symbols c = search needs
+
+add-symbols-requires : tie.Need-add-symbols-requires
+add-symbols-requires c κs =
+    let p = c .before .before .before .before .pre in
+    (omega arith, λ i. omega (arith, p .3 i), λ i. omega (arith, p .4 i))
+
+same-length : tie.Need-same-length
+same-length c = search needs
+
+returns : tie.Need-returns
+returns c =
+    let a = c .before .before .before .before .before .before .before .args in
+    c .before .before .add-bytes .ensures ∙ ap (λ (n : ℕ). addEach n (a .acc .now) (a .src .now)) (omega arith)
+
+same-length-2 : tie.Need-same-length-2
+same-length-2 c = search needs
+
+returns-2 : tie.Need-returns-2
+returns-2 c =
+    let a = c .before .before .before .before .before .before .before .args in
+    c .before .before .add-symbols .ensures ∙ ap (λ (n : ℕ). addEach n (a .acc .now) (a .src .now)) (omega arith)
+
+pub add-into-spec : {M : Type 1} → statement M
+add-into-spec =
+    tie.close
+    (tie.spec
+    add-bytes-requires
+    sub-add-symbols
+    cast-add-symbols
+    add-symbols-requires
+    same-length
+    returns
+    same-length-2
+    returns-2)

@@ -1,0 +1,94 @@
+-- `symbols::add_rotated` meets its contract. Assumes nothing.
+use mathlib.Core.Path.{sym, _∙_}
+use Prim.Native.Nat.{ℕ, _-_}
+use native.Mathlib.Omega.{arith}
+use lib.ListN.{length, length-take, length-drop}
+use Rattle.symbols.specs.Rotation.{below-part, lead-length, lead-below, runs}
+use borrow.Author.Needs.{needs}
+use Rattle.symbols.proofs.add_rotated.Statement.{statement}
+use Rattle.symbols.proofs.add_rotated.Tie as tie
+
+sub-rest : tie.Need-sub-rest
+sub-rest c = search needs
+
+sub-add-into : tie.Need-sub-add-into
+sub-add-into c = search needs
+
+part-add-into-start : tie.Need-part-add-into-start
+part-add-into-start c = search needs
+
+part-add-into-end : tie.Need-part-add-into-end
+part-add-into-end c = search needs
+
+slice-aggregate-add-into : tie.Need-slice-aggregate-add-into
+slice-aggregate-add-into c = simp length-take (omega arith)
+
+add-into-requires : tie.Need-add-into-requires
+add-into-requires c κs =
+    let b = c .before .before .before .before in
+    let a = b .args in (
+      omega arith,
+      omega arith,
+      simp (length-take, length-drop) (omega arith),
+      below-part (a .q) (omega arith) (a .p) (length (a .acc .now) - a .p) (a .acc .now) (b .pre .4),
+      below-part (a .q) (omega arith) 0 (length (a .src .now) - a .p) (a .src .now) (b .pre .5),
+    )
+
+slice-relend-prefix-add-into : tie.Need-slice-relend-prefix-add-into
+slice-relend-prefix-add-into c = search needs
+
+slice-aggregate-add-into-2 : tie.Need-slice-aggregate-add-into-2
+slice-aggregate-add-into-2 c =
+    let a = c .before .before .before .before .before .before .before .before .args in
+    sym (lead-length (a .q) (a .p) (a .acc .now) (a .src .now) (omega arith) (omega arith) (c .before .before .before .add-into .last .1 .0))
+
+sub-add-into-2 : tie.Need-sub-add-into-2
+sub-add-into-2 c = search needs
+
+part-add-into-start-2 : tie.Need-part-add-into-start-2
+part-add-into-start-2 c = search needs
+
+part-add-into-end-2 : tie.Need-part-add-into-end-2
+part-add-into-end-2 c = search needs
+
+add-into-requires-2 : tie.Need-add-into-requires-2
+add-into-requires-2 c κs =
+    let b = c .before .before .before .before .before .before .before .before .before in
+    let a = b .args in
+    let rest : ℕ = length (a .src .now) - a .p in
+    let r = c .before .before .before .before .add-into .last .1 .0 in (
+      omega arith,
+      omega arith,
+      lead-length (a .q) (a .p) (a .acc .now) (a .src .now) (omega arith) (omega arith) r ∙ simp (length-take, length-drop) (omega arith),
+      lead-below (a .q) (a .p) (a .acc .now) (a .src .now) (omega arith) (omega arith) (omega arith) (b .pre .4) r,
+      below-part (a .q) (omega arith) rest (length (a .src .now) - rest) (a .src .now) (b .pre .5),
+    )
+
+same-length : tie.Need-same-length
+same-length c = search needs
+
+returns : tie.Need-returns
+returns c =
+    let a = c .before .before .before .before .before .before .before .before .before .before .before .before .args in
+    let first = c .before .before .before .before .before .before .before .add-into in
+    let second = c .before .before .add-into2 in
+    runs (a .q) (a .p) (a .acc .now) (a .src .now) (omega arith) (omega arith) (first .last .1 .0) (second .last .1 .0) (first .ensures) (second .ensures)
+
+pub add-rotated-spec : {M : Type 1} → statement M
+add-rotated-spec =
+    tie.close
+    (tie.spec
+    sub-rest
+    sub-add-into
+    part-add-into-start
+    part-add-into-end
+    slice-aggregate-add-into
+    add-into-requires
+    slice-relend-prefix-add-into
+    slice-aggregate-add-into-2
+    sub-add-into-2
+    part-add-into-start-2
+    part-add-into-end-2
+    add-into-requires-2
+    same-length
+    returns)

@@ -1,0 +1,63 @@
+-- `symbols::sub_bytes` meets its contract. Assumes nothing.
+use borrow.Author.Needs.{needs}
+use Prim.Native.Nat.{_-_}
+use native.Mathlib.Omega.{arith}
+use lib.ListN.{length, getD}
+use Rattle.model.specs.Symbols.{sub, subEach}
+use Rattle.symbols.specs.Written.{Written, opened, turned, closed}
+use Rattle.symbols.proofs.sub_bytes.Statement.{statement}
+use Rattle.symbols.proofs.sub_bytes.Tie as tie
+
+abbrev Inv-loop : tie.InvT-loop
+Inv-loop acc₀ src i₀ acc i = Written (λ l x. sub 256 x (getD src l 0)) acc₀ i acc
+
+abbrev μ-loop : tie.MeasureT-loop
+μ-loop acc₀ src i₀ acc i = length acc₀ - i
+
+loop-holds : tie.Need-loop-holds Inv-loop μ-loop
+loop-holds c = opened _ _
+
+slice-read-sub-byte : tie.Need-slice-read-sub-byte Inv-loop μ-loop
+slice-read-sub-byte c = omega arith
+
+shared-slice-read-sub-byte : tie.Need-shared-slice-read-sub-byte Inv-loop μ-loop
+shared-slice-read-sub-byte c = omega arith
+
+sub-byte-requires : tie.Need-sub-byte-requires Inv-loop μ-loop
+sub-byte-requires c κs = search needs
+
+slice-write-acc : tie.Need-slice-write-acc Inv-loop μ-loop
+slice-write-acc c = omega arith
+
+add-i : tie.Need-add-i Inv-loop μ-loop
+add-i c = omega arith
+
+loop-less : tie.Need-loop-less Inv-loop μ-loop
+loop-less c = omega arith
+
+loop-again : tie.Need-loop-again Inv-loop μ-loop
+loop-again c = turned (c .before .before .before .before .loop .inv) (omega arith) (c .sub-byte .ensures)
+
+same-length : tie.Need-same-length Inv-loop μ-loop
+same-length c = omega arith
+
+returns : tie.Need-returns Inv-loop μ-loop
+unfolding subEach
+returns c = closed (c .before .loop .inv) (omega arith)
+
+pub sub-bytes-spec : {M : Type 1} → statement M
+sub-bytes-spec =
+    tie.close
+    (tie.spec
+    Inv-loop
+    μ-loop
+    loop-holds
+    slice-read-sub-byte
+    shared-slice-read-sub-byte
+    sub-byte-requires
+    slice-write-acc
+    add-i
+    loop-less
+    loop-again
+    same-length
+    returns)

@@ -1,0 +1,51 @@
+-- `symbols::sub_into` meets its contract. Assumes nothing.
+use mathlib.Core.Path.{ap, _∙_}
+use Prim.Native.Nat.{ℕ}
+use native.Mathlib.Omega.{arith}
+use Rattle.model.specs.Symbols.{subEach}
+use borrow.Author.Needs.{needs}
+use Rattle.symbols.proofs.sub_into.Statement.{statement}
+use Rattle.symbols.proofs.sub_into.Tie as tie
+
+sub-bytes-requires : tie.Need-sub-bytes-requires
+sub-bytes-requires c κs = search needs
+
+sub-sub-symbols : tie.Need-sub-sub-symbols
+sub-sub-symbols c = search needs
+
+cast-sub-symbols : tie.Need-cast-sub-symbols
+cast-sub-symbols c = search needs
+
+sub-symbols-requires : tie.Need-sub-symbols-requires
+sub-symbols-requires c κs =
+    let p = c .before .before .before .before .pre in
+    (omega arith, λ i. omega (arith, p .3 i), λ i. omega (arith, p .4 i))
+
+same-length : tie.Need-same-length
+same-length c = search needs
+
+returns : tie.Need-returns
+returns c =
+    let a = c .before .before .before .before .before .before .before .args in
+    c .before .before .sub-bytes .ensures ∙ ap (λ (n : ℕ). subEach n (a .acc .now) (a .src .now)) (omega arith)
+
+same-length-2 : tie.Need-same-length-2
+same-length-2 c = search needs
+
+returns-2 : tie.Need-returns-2
+returns-2 c =
+    let a = c .before .before .before .before .before .before .before .args in
+    c .before .before .sub-symbols .ensures ∙ ap (λ (n : ℕ). subEach n (a .acc .now) (a .src .now)) (omega arith)
+
+pub sub-into-spec : {M : Type 1} → statement M
+sub-into-spec =
+    tie.close
+    (tie.spec
+    sub-bytes-requires
+    sub-sub-symbols
+    cast-sub-symbols
+    sub-symbols-requires
+    same-length
+    returns
+    same-length-2
+    returns-2)

@@ -1,0 +1,62 @@
+-- `symbols::weight_of_part` meets its contract. Assumes nothing.
+use mathlib.Core.Path.{_≡_, sym, ap, _∙_}
+use Prim.Native.Nat.{_≤_, _-_}
+use native.Mathlib.Omega.{arith}
+use borrow.Author.Needs.{needs}
+use lib.ListN.{length, getD, take}
+use lib.Seq.{take-all}
+use Rattle.model.specs.Symbols.{weight}
+use Rattle.theory.specs.Counting.{differ-le}
+use Rattle.symbols.specs.Scans.{weight-none, weight-turn, weight-take-le}
+use Rattle.symbols.proofs.weight_of_part.Statement.{statement}
+use Rattle.symbols.proofs.weight_of_part.Tie as tie
+
+abbrev Inv-loop : tie.InvT-loop
+Inv-loop s n₀ i₀ n i = (i ≤ length s) × (n ≡ weight (take i s))
+
+abbrev μ-loop : tie.MeasureT-loop
+μ-loop s n₀ i₀ n i = length s - i
+
+loop-holds : tie.Need-loop-holds Inv-loop μ-loop
+loop-holds c = (omega arith, sym (weight-none (c .before .args .s .now)))
+
+shared-slice-read-nonzero : tie.Need-shared-slice-read-nonzero Inv-loop μ-loop
+shared-slice-read-nonzero c = omega arith
+
+nonzero-requires : tie.Need-nonzero-requires Inv-loop μ-loop
+nonzero-requires c κs = search needs
+
+add-n : tie.Need-add-n Inv-loop μ-loop
+add-n c =
+    let b = c .before .before .before in
+    let s = b .before .before .args .s .now in
+    omega (arith, weight-take-le s (b .loop .i), c .nonzero .ensures, differ-le (getD s (b .loop .i) 0) 0)
+
+add-i : tie.Need-add-i Inv-loop μ-loop
+add-i c = omega arith
+
+loop-less : tie.Need-loop-less Inv-loop μ-loop
+loop-less c = omega arith
+
+loop-again : tie.Need-loop-again Inv-loop μ-loop
+loop-again c =
+    let b = c .before .before .before in
+    omega (arith, c .nonzero .ensures, weight-turn (b .before .before .args .s .now) (b .loop .i) (omega arith))
+
+returns : tie.Need-returns Inv-loop μ-loop
+returns c = let l = c .before .loop in l .inv .1 ∙ ap weight (take-all (l .i) _ (omega arith))
+
+pub weight-of-part-spec : {M : Type 1} → statement M
+weight-of-part-spec =
+    tie.close
+    (tie.spec
+    Inv-loop
+    μ-loop
+    loop-holds
+    shared-slice-read-nonzero
+    nonzero-requires
+    add-n
+    add-i
+    loop-less
+    loop-again
+    returns)

@@ -1,0 +1,5 @@
+-- Laws for the functions on symbols.
+pub mod Sums
+pub mod Written
+pub mod Scans
+pub mod Rotation

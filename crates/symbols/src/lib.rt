@@ -1,0 +1,228 @@
+// Sums and differences of symbols modulo q, on single symbols and on whole slices; the range test; the weight.
+ghost use mathlib.Core.Path.{_≡_};
+ghost use Prim.Native.Nat.{_+_, _%_, _<_, _≤_, max};
+ghost use lib.ListN.{length, getD};
+ghost use Rattle.model.specs.Calls.{allBelow};
+ghost use Rattle.model.specs.Symbols.{add, sub, differ, weight, Below, tabulate, addEach, subEach};
+ghost use Rattle.symbols.specs.Scans.{highest};
+
+// What a + b has too much: nothing where a is at most what b leaves below q, else q, as a byte.
+fn carried(top: u8, a: u8, room: u8) -> u8
+    ensures { λ r. ⌜ (a ≤ room → r ≡ 0) × (room < a → r ≡ (top + 1) % 256) ⌝ }
+{
+    if a <= room {
+        0
+    } else {
+        std::num::wrapping_add_u8(top, 1)
+    }
+}
+
+// The sum modulo top + 1, without a remainder or a branch. The highest symbol stands for q, so that q = 256 fits a byte.
+pub fn add_mod(top: u8, a: u8, b: u8) -> u8
+    requires { ⌜ (a ≤ top) × (b ≤ top) ⌝ }
+    ensures { λ r. ⌜ r ≡ add (top + 1) a b ⌝ }
+{
+    let sum = std::num::wrapping_add_u8(a, b);
+    let room = top - b;
+    std::num::wrapping_sub_u8(sum, carried(top, a, room))
+}
+
+// The difference modulo top + 1, without a remainder.
+pub fn sub_mod(top: u8, a: u8, b: u8) -> u8
+    requires { ⌜ (a ≤ top) × (b ≤ top) ⌝ }
+    ensures { λ r. ⌜ r ≡ sub (top + 1) a b ⌝ }
+{
+    if b <= a { a - b } else { a + (top - b) + 1 }
+}
+
+// At q = 256 a byte's own wrapping sum and difference are those of symbols.
+fn add_byte(a: u8, b: u8) -> u8
+    ensures { λ r. ⌜ r ≡ add 256 a b ⌝ }
+{
+    std::num::wrapping_add_u8(a, b)
+}
+
+fn sub_byte(a: u8, b: u8) -> u8
+    ensures { λ r. ⌜ r ≡ sub 256 a b ⌝ }
+{
+    std::num::wrapping_sub_u8(a, b)
+}
+
+// The loops at q = 256: one wrapping sum or difference a turn.
+fn add_bytes(acc: &mut [u8], src: &[u8])
+    requires { ⌜ length (now acc) ≡ length (now src) ⌝ }
+    ensures { λ _. ⌜ now (acc .exit) ≡ addEach 256 (now (acc .entry)) (now (src .entry)) ⌝ }
+{
+    let mut i = 0;
+    while i < acc.len() {
+        acc[i] = add_byte(acc[i], src[i]);
+        i += 1;
+    }
+}
+
+fn sub_bytes(acc: &mut [u8], src: &[u8])
+    requires { ⌜ length (now acc) ≡ length (now src) ⌝ }
+    ensures { λ _. ⌜ now (acc .exit) ≡ subEach 256 (now (acc .entry)) (now (src .entry)) ⌝ }
+{
+    let mut i = 0;
+    while i < acc.len() {
+        acc[i] = sub_byte(acc[i], src[i]);
+        i += 1;
+    }
+}
+
+// The loops at any other q, by its highest symbol.
+fn add_symbols(top: u8, acc: &mut [u8], src: &[u8])
+    requires { ⌜ (length (now acc) ≡ length (now src)) × Below (top + 1) (now acc) × Below (top + 1) (now src) ⌝ }
+    ensures { λ _. ⌜ now (acc .exit) ≡ addEach (top + 1) (now (acc .entry)) (now (src .entry)) ⌝ }
+{
+    let mut i = 0;
+    while i < acc.len() {
+        acc[i] = add_mod(top, acc[i], src[i]);
+        i += 1;
+    }
+}
+
+fn sub_symbols(top: u8, acc: &mut [u8], src: &[u8])
+    requires { ⌜ (length (now acc) ≡ length (now src)) × Below (top + 1) (now acc) × Below (top + 1) (now src) ⌝ }
+    ensures { λ _. ⌜ now (acc .exit) ≡ subEach (top + 1) (now (acc .entry)) (now (src .entry)) ⌝ }
+{
+    let mut i = 0;
+    while i < acc.len() {
+        acc[i] = sub_mod(top, acc[i], src[i]);
+        i += 1;
+    }
+}
+
+// src added to acc, symbol by symbol.
+pub fn add_into(q: u32, acc: &mut [u8], src: &[u8])
+    requires { ⌜ (2 ≤ q) × (q ≤ 256) × (length (now acc) ≡ length (now src)) × Below q (now acc) × Below q (now src) ⌝ }
+    ensures { λ _. ⌜ now (acc .exit) ≡ addEach q (now (acc .entry)) (now (src .entry)) ⌝ }
+{
+    if q == 256 {
+        add_bytes(acc, src);
+    } else {
+        add_symbols((q - 1) as u8, acc, src);
+    }
+}
+
+// src subtracted from acc, symbol by symbol.
+pub fn sub_into(q: u32, acc: &mut [u8], src: &[u8])
+    requires { ⌜ (2 ≤ q) × (q ≤ 256) × (length (now acc) ≡ length (now src)) × Below q (now acc) × Below q (now src) ⌝ }
+    ensures { λ _. ⌜ now (acc .exit) ≡ subEach q (now (acc .entry)) (now (src .entry)) ⌝ }
+{
+    if q == 256 {
+        sub_bytes(acc, src);
+    } else {
+        sub_symbols((q - 1) as u8, acc, src);
+    }
+}
+
+// src turned by p places and added to acc, in two straight runs: check i gets data symbol (i − p) mod k.
+pub fn add_rotated(q: u32, p: usize, acc: &mut [u8], src: &[u8])
+    requires { ⌜ (2 ≤ q) × (q ≤ 256) × (length (now acc) ≡ length (now src)) × (p < length (now src)) × Below q (now acc) × Below q (now src) ⌝ }
+    ensures { λ _. ⌜ now (acc .exit) ≡ tabulate (length (now (src .entry))) (λ i. add q (getD (now (acc .entry)) i 0) (getD (now (src .entry)) (sub (length (now (src .entry))) i p) 0)) ⌝ }
+{
+    let rest = src.len() - p;
+    add_into(q, &mut acc[p..], &src[..rest]);
+    add_into(q, &mut acc[..p], &src[rest..]);
+}
+
+// The larger of two symbols.
+fn higher(a: u8, b: u8) -> u8
+    ensures { λ r. ⌜ r ≡ max a b ⌝ }
+{
+    if a < b { b } else { a }
+}
+
+// The highest symbol of a slice, 0 where it is empty.
+fn highest_of(s: &[u8]) -> u8
+    ensures { λ r. ⌜ r ≡ highest (now (s .entry)) ⌝ }
+{
+    let mut top = 0;
+    let mut i = 0;
+    while i < s.len() {
+        top = higher(top, s[i]);
+        i += 1;
+    }
+    top
+}
+
+// Whether every symbol is below q: one test at the end of the scan, and no scan from q = 256 on, where every byte is a symbol.
+pub fn all_below(q: u32, s: &[u8]) -> bool
+    requires { ⌜ 1 ≤ q ⌝ }
+    ensures { λ r. ⌜ r ≡ allBelow q (now (s .entry)) ⌝ }
+{
+    if 256 <= q {
+        return true;
+    }
+    (highest_of(s) as u32) < q
+}
+
+// src written over dst.
+pub fn copy_into(dst: &mut [u8], src: &[u8])
+    requires { ⌜ length (now dst) ≡ length (now src) ⌝ }
+    ensures { λ _. ⌜ now (dst .exit) ≡ now (src .entry) ⌝ }
+{
+    let mut i = 0;
+    while i < dst.len() {
+        dst[i] = src[i];
+        i += 1;
+    }
+}
+
+// 0 written over s.
+pub fn clear(s: &mut [u8])
+    ensures { λ _. ⌜ now (s .exit) ≡ tabulate (length (now (s .entry))) (λ i. 0) ⌝ }
+{
+    let mut i = 0;
+    while i < s.len() {
+        s[i] = 0;
+        i += 1;
+    }
+}
+
+// 1 where a symbol is not 0, else 0.
+fn nonzero(x: u8) -> u8
+    ensures { λ r. ⌜ r ≡ differ x 0 ⌝ }
+{
+    if x == 0 { 0 } else { 1 }
+}
+
+// The weight of a part, counted in a byte.
+fn weight_of_part(s: &[u8]) -> u8
+    requires { ⌜ length (now s) ≤ 255 ⌝ }
+    ensures { λ r. ⌜ r ≡ weight (now (s .entry)) ⌝ }
+{
+    let mut n: u8 = 0;
+    let mut i = 0;
+    while i < s.len() {
+        n += nonzero(s[i]);
+        i += 1;
+    }
+    n
+}
+
+// The end of the part that starts at a, within n: at most 224 symbols, which a byte counts, and a whole number of 32-symbol turns.
+fn part_end(a: usize, n: usize) -> usize
+    requires { ⌜ a < n ⌝ }
+    ensures { λ r. ⌜ (a < r) × (r ≤ n) × (r ≤ a + 255) ⌝ }
+{
+    if 224 < n - a { a + 224 } else { n }
+}
+
+// How many symbols are not 0, part by part, so that a byte holds each part's count.
+pub fn weight_of(s: &[u8]) -> u32
+    requires { ⌜ length (now s) ≤ 8192 ⌝ }
+    ensures { λ r. ⌜ r ≡ weight (now (s .entry)) ⌝ }
+{
+    let mut n: u32 = 0;
+    let mut a = 0;
+    while a < s.len() {
+        let e = part_end(a, s.len());
+        let w = weight_of_part(&s[a..e]);
+        n += w as u32;
+        a = e;
+    }
+    n
+}

@@ -1,0 +1,77 @@
+-- `vote::leader_of` meets its contract. The invariant: best is the first of the candidates passed, with its count.
+use mathlib.Core.Path.{_≡_, refl, sym, _∙_, ap}
+use mathlib.Core.List.{List}
+use Prim.Native.Nat.{ℕ, _≤_, _-_}
+use native.Mathlib.Omega.{arith}
+use lib.ListN.{length, take, getD}
+use lib.Seq.{take-all}
+use Rattle.model.specs.Symbols.{choose}
+use Rattle.model.specs.Vote.{goesBefore, firstOf, leader}
+use Rattle.theory.specs.Turns.{first-turn}
+use Rattle.vote.specs.declared.Lead.{Lead}
+use Rattle.vote.specs.Leading.{leadOf, first-none}
+use Rattle.vote.proofs.leader_of.Statement.{statement}
+use Rattle.vote.proofs.leader_of.Tie as tie
+
+abbrev Inv-loop : tie.InvT-loop
+Inv-loop es first best₀ i₀ best i = (i ≤ length es) × (best ≡ leadOf es (firstOf es (getD es 0 0) (take i es)))
+
+abbrev μ-loop : tie.MeasureT-loop
+μ-loop es first best₀ i₀ best i = length es - i
+
+shared-slice-read-first : tie.Need-shared-slice-read-first Inv-loop μ-loop
+shared-slice-read-first c = omega arith
+
+count-equal-requires : tie.Need-count-equal-requires Inv-loop μ-loop
+count-equal-requires c κs = omega arith
+
+loop-holds : tie.Need-loop-holds Inv-loop μ-loop
+loop-holds c =
+    let es : List ℕ = c .before .before .before .args .es .now in
+    (omega arith, rw (c .count-equal .ensures, first-none es (getD es 0 0) es) refl)
+
+shared-slice-read-first-of : tie.Need-shared-slice-read-first-of Inv-loop μ-loop
+shared-slice-read-first-of c = omega arith
+
+first-of-requires : tie.Need-first-of-requires Inv-loop μ-loop
+first-of-requires c κs = (omega arith, rw (c .before .before .loop .inv .1) refl)
+
+add-i : tie.Need-add-i Inv-loop μ-loop
+add-i c = omega arith
+
+loop-less : tie.Need-loop-less Inv-loop μ-loop
+loop-less c = omega arith
+
+loop-again : tie.Need-loop-again Inv-loop μ-loop
+loop-again c =
+    let b = c .before .before .before in
+    let es : List ℕ = b .before .before .before .before .args .es .now in
+    let a : ℕ = getD es (b .loop .i) 0 in (
+      omega arith,
+      c .first-of .ensures
+          ∙ ap (λ (l : Lead). leadOf es (choose (goesBefore es a (l .value)) a (l .value))) (b .loop .inv .1)
+          ∙ ap (λ (v : ℕ). leadOf es v) (sym (first-turn es (getD es 0 0) es (b .loop .i) (omega arith))),
+    )
+
+returns : tie.Need-returns Inv-loop μ-loop
+unfolding leader
+returns c =
+    let b = c .before in
+    let es : List ℕ = b .before .before .before .before .args .es .now in
+    b .loop .inv .1 ∙ ap (λ (l : List ℕ). leadOf es (firstOf es (getD es 0 0) l)) (take-all (b .loop .i) es (omega arith))
+
+pub leader-of-spec : {M : Type 1} → statement M
+leader-of-spec =
+    tie.close
+    (tie.spec
+    Inv-loop
+    μ-loop
+    shared-slice-read-first
+    count-equal-requires
+    loop-holds
+    shared-slice-read-first-of
+    first-of-requires
+    add-i
+    loop-less
+    loop-again
+    returns)

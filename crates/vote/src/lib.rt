@@ -1,0 +1,180 @@
+// The vote over the estimates of a data symbol, and the steps of a visit that read, gather and subtract at its checks.
+ghost use mathlib.Core.Path.{_≡_};
+ghost use mathlib.Core.List.{_∷_};
+ghost use Prim.Native.Nat.{_+_, _%_, _<_, _≤_, max};
+ghost use lib.Dec.{eqb};
+ghost use lib.ListN.{length};
+ghost use Rattle.model.specs.Code.{checksBy};
+ghost use Rattle.model.specs.Symbols.{choose, same, count, Below, symbolsAt, subtractAt};
+ghost use Rattle.model.specs.Vote.{goesBefore, leader, leadCount, otherCount, nextCount, zeroCount};
+ghost use Rattle.vote.specs.Checks.{AtChecks};
+ghost use Rattle.vote.specs.Leading.{leadOf};
+
+// 1 where two symbols are equal, else 0.
+fn equal(a: u8, b: u8) -> u8
+    ensures { λ r. ⌜ r ≡ same a b ⌝ }
+{
+    if a == b { 1 } else { 0 }
+}
+
+// How often v stands among the estimates.
+fn count_equal(es: &[u8], v: u8) -> u8
+    requires { ⌜ length (now es) ≤ 255 ⌝ }
+    ensures { λ r. ⌜ r ≡ count v (now (es .entry)) ⌝ }
+{
+    let mut n: u8 = 0;
+    let mut i = 0;
+    while i < es.len() {
+        n += equal(v, es[i]);
+        i += 1;
+    }
+    n
+}
+
+// A value, and how many estimates have it.
+struct Lead {
+    value: u8,
+    count: u8,
+}
+
+// The first of the leader so far and one candidate: the commoner, in a tie the smaller.
+fn first_of(es: &[u8], best: Lead, a: u8) -> Lead
+    requires { ⌜ (length (now es) ≤ 255) × (best .count ≡ count (best .value) (now es)) ⌝ }
+    ensures { λ r. ⌜ r ≡ leadOf (now (es .entry)) (choose (goesBefore (now (es .entry)) a (best .value)) a (best .value)) ⌝ }
+{
+    if a == best.value {
+        return best;
+    }
+    let n = count_equal(es, a);
+    if n < best.count {
+        return best;
+    }
+    if best.count < n {
+        return Lead { value: a, count: n };
+    }
+    if a < best.value {
+        return Lead { value: a, count: n };
+    }
+    best
+}
+
+// The leader of the estimates, and its count.
+fn leader_of(es: &[u8]) -> Lead
+    requires { ⌜ (0 < length (now es)) × (length (now es) ≤ 255) ⌝ }
+    ensures { λ r. ⌜ r ≡ leadOf (now (es .entry)) (leader (now (es .entry))) ⌝ }
+{
+    let first = es[0];
+    let mut best = Lead {
+        value: first,
+        count: count_equal(es, first),
+    };
+    let mut i = 0;
+    while i < es.len() {
+        best = first_of(es, best, es[i]);
+        i += 1;
+    }
+    best
+}
+
+// The larger of m and the count of one candidate, which counts 0 where it is h.
+fn larger_other(es: &[u8], h: u8, m: u8, a: u8) -> u8
+    requires { ⌜ length (now es) ≤ 255 ⌝ }
+    ensures { λ r. ⌜ r ≡ max m (choose (eqb a h) 0 (count a (now (es .entry)))) ⌝ }
+{
+    if a == h {
+        return m;
+    }
+    let n = count_equal(es, a);
+    if m < n { n } else { m }
+}
+
+// The largest count among the values other than h.
+fn next_count(es: &[u8], h: u8) -> u8
+    requires { ⌜ length (now es) ≤ 255 ⌝ }
+    ensures { λ r. ⌜ r ≡ otherCount (now (es .entry)) h (now (es .entry)) ⌝ }
+{
+    let mut m: u8 = 0;
+    let mut i = 0;
+    while i < es.len() {
+        m = larger_other(es, h, m, es[i]);
+        i += 1;
+    }
+    m
+}
+
+// What the vote tells: the leader, its count, the largest count among the other values, and the zeros.
+pub struct Vote {
+    pub leader: u8,
+    pub lead: u8,
+    pub next: u8,
+    pub zeros: u8,
+}
+
+// The vote over 2 to 33 estimates: each is a candidate, and its count is taken over all of them.
+pub fn vote_over(es: &[u8]) -> Vote
+    requires { ⌜ (2 ≤ length (now es)) × (length (now es) ≤ 33) ⌝ }
+    ensures { λ r. ⌜ r ≡ record { leader = leader (now (es .entry)); lead = leadCount (now (es .entry)); next = nextCount (now (es .entry)); zeros = zeroCount (now (es .entry)) } ⌝ }
+{
+    let best = leader_of(es);
+    let h = best.value;
+    let m = best.count;
+    let next = next_count(es, h);
+    let zeros = count_equal(es, 0);
+    Vote {
+        leader: h,
+        lead: m,
+        next: next,
+        zeros: zeros,
+    }
+}
+
+// The check of data symbol j by position p.
+fn check_index(k: usize, j: usize, p: u16) -> usize
+    requires { ⌜ (j < k) × (p < k) × (k ≤ 4096) ⌝ }
+    ensures { λ r. ⌜ r ≡ (j + p) % k ⌝ }
+{
+    let i = j + (p as usize);
+    if i < k { i } else { i - k }
+}
+
+// The zeros of the syndrome at the checks of data symbol j.
+pub fn zeros_at(k: usize, positions: &[u16], j: usize, syndrome: &[u8]) -> u32
+    requires { ⌜ AtChecks k (now positions) j (now syndrome) ⌝ }
+    ensures { λ r. ⌜ r ≡ count 0 (symbolsAt (now (syndrome .entry)) (checksBy k (now (positions .entry)) j)) ⌝ }
+{
+    let mut n: u8 = 0;
+    let mut i = 0;
+    while i < positions.len() {
+        let c = check_index(k, j, positions[i]);
+        n += equal(0, syndrome[c]);
+        i += 1;
+    }
+    n as u32
+}
+
+// The estimates of data symbol j: its own difference, and the syndrome at each of its checks.
+pub fn gather(k: usize, positions: &[u16], j: usize, syndrome: &[u8], own: u8, es: &mut [u8])
+    requires { ⌜ AtChecks k (now positions) j (now syndrome) × (length (now es) ≡ length (now positions) + 1) ⌝ }
+    ensures { λ r. ⌜ now (es .exit) ≡ own ∷ symbolsAt (now (syndrome .entry)) (checksBy k (now (positions .entry)) j) ⌝ }
+{
+    es[0] = own;
+    let mut i = 0;
+    while i < positions.len() {
+        let c = check_index(k, j, positions[i]);
+        i += 1;
+        es[i] = syndrome[c];
+    }
+}
+
+// h subtracted from the syndrome at each check of data symbol j.
+pub fn subtract_checks(top: u8, k: usize, positions: &[u16], j: usize, h: u8, syndrome: &mut [u8])
+    requires { ⌜ AtChecks k (now positions) j (now syndrome) × (h ≤ top) × Below (top + 1) (now syndrome) ⌝ }
+    ensures { λ r. ⌜ now (syndrome .exit) ≡ subtractAt (top + 1) h (checksBy k (now (positions .entry)) j) (now (syndrome .entry)) ⌝ }
+{
+    let mut i = 0;
+    while i < positions.len() {
+        let c = check_index(k, j, positions[i]);
+        syndrome[c] = symbols::sub_mod(top, syndrome[c], h);
+        i += 1;
+    }
+}
