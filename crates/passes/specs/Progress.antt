@@ -22,6 +22,7 @@ use Rattle.theory.specs.Steps.{Sized, below-estimates}
 use Rattle.theory.specs.Turns.{pass-turn, pass-count-turn}
 use Rattle.passes.specs.Visits.{toSubtract, subtract-zero, subtract-some, subtract-below}
 use Rattle.vote.specs.Checks.{AtChecks}
+use Rattle.zeros.specs.Counts.{AllChecks}
 use Rattle.passes.specs.declared.Tally.{Tally}
 
 -- the state and the tally
@@ -207,6 +208,15 @@ kept-by c t n p x r e = rw e (visits-kept c t n p r)
 pub at-checks : (c : Code) (st : State) → Ready c st → (j : ℕ) → j < dataCount c → AtChecks (c .k) (c .positions) j (st .syndrome)
 at-checks c st r j h = record {
   symbol = h;
+  size = r .limits .k-high;
+  len = r .sized .len-syndrome;
+  few = r .limits .J-high;
+  below = position-below c (r .limits);
+}
+
+pub all-checks-of : (c : Code) (st : State) → Ready c st → AllChecks (c .k) (c .positions) (st .syndrome)
+all-checks-of c st r = record {
+  some = omega (arith, r .limits .k-low);
   size = r .limits .k-high;
   len = r .sized .len-syndrome;
   few = r .limits .J-high;

@@ -11,13 +11,12 @@ use lib.ListN.{length, take}
 use lib.Seq.{take-at}
 use Rattle.model.specs.Code.{checksBy}
 use Rattle.model.specs.Decoder.{isChange}
-use Rattle.model.specs.Symbols.{choose, Below, symbolsAt}
-use Rattle.model.specs.Vote.{leader, leadCount, nextCount, zeroCount}
+use Rattle.model.specs.Symbols.{choose, same, count, Below, symbolsAt}
+use Rattle.model.specs.Vote.{leader, leadCount, nextCount}
 use Rattle.theory.specs.Circulant.{length-checksBy}
-use Rattle.theory.specs.Counting.{is-true, is-false, length-symbolsAt}
+use Rattle.theory.specs.Counting.{is-true, is-false, count-cons, length-symbolsAt, count-misses}
 use Rattle.theory.specs.Falling.{choose-case, isChange-facts, isChange-make, isChange-zero}
 use Rattle.theory.specs.Voting.{leader-below}
-use Rattle.vote.specs.declared.Vote.{Vote}
 
 -- h0 where estimates are a change at a threshold, else 0
 unfoldable pub toSubtract : ℕ → List ℕ → ℕ
@@ -64,9 +63,9 @@ subtract-below q pos t es b = choose-case (λ x n. n < q) (isChange t es) (leade
 pub estimates-length : (own : ℕ) (s : List ℕ) (k : ℕ) (ps : List ℕ) (j : ℕ) → length (own ∷ symbolsAt s (checksBy k ps j)) ≡ length ps + 1
 estimates-length own s k ps j = omega (arith, length-symbolsAt s (checksBy k ps j), length-checksBy k ps j)
 
--- The buffer's front g holds the estimates es, n of them: the part of n is es, and the vote over the part is the vote over es.
+-- The buffer's front g holds the estimates es, n of them: the part of n is es.
 module _ (g rest es : List ℕ) (n : ℕ) (e : g ≡ es) (l : length es ≡ n) where
-  gathered : take n (g ++ rest) ≡ es
+  pub gathered : take n (g ++ rest) ≡ es
   gathered = rw e (take-at es rest n l)
 
   pub gathered-length : length (take n (g ++ rest)) ≡ n
@@ -75,8 +74,9 @@ module _ (g rest es : List ℕ) (n : ℕ) (e : g ≡ es) (l : length es ≡ n) w
   pub gathered-within : (low high : ℕ) → low ≤ n → n ≤ high → (low ≤ length (take n (g ++ rest))) × (length (take n (g ++ rest)) ≤ high)
   gathered-within low high a b = (omega (arith, gathered-length), omega (arith, gathered-length))
 
-  pub gathered-vote : (v : Vote)
-      → v ≡ record { leader = leader (take n (g ++ rest)); lead = leadCount (take n (g ++ rest)); next = nextCount (take n (g ++ rest)); zeros = zeroCount (take n (g ++ rest)) }
-      → (v .leader ≡ leader es) × (v .lead ≡ leadCount es) × (v .next ≡ nextCount es)
-  gathered-vote v f =
-      (ap (λ (x : Vote). x .leader) f ∙ ap leader gathered, ap (λ (x : Vote). x .lead) f ∙ ap leadCount gathered, ap (λ (x : Vote). x .next) f ∙ ap nextCount gathered)
+-- the zeros, from those at the checks and the own difference
+pub zeros-counted : (own : ℕ) (es : List ℕ) (z o : ℕ) → z ≡ count 0 es → o ≡ same 0 own → z + o ≡ count 0 (own ∷ es)
+zeros-counted own es z o e f = omega (arith, count-cons 0 own es)
+
+pub count-few : (v : ℕ) (es : List ℕ) → count v es ≤ length es
+count-few v es = omega (arith, count-misses v es)

@@ -1,20 +1,16 @@
--- Values marked in a row of flags: a value whose flag stands already stops the marking, and none does where the values are all different.
-use mathlib.Core.Path.{_≡_, refl, ap, sym, _∙_, subst}
+-- Values marked in a row of flags: a value whose flag stands already stops the marking, and none does where each is new.
+use mathlib.Core.Path.{_≡_, refl, sym, subst}
 use mathlib.Core.Logic.{_≢_, _↔_}
 use mathlib.Core.Bool.{Bool, true, false}
 use mathlib.Core.List.{List, [], _∷_, _++_}
-use Prim.Native.Nat.{ℕ, zero, _+_, _≤_, _<_}
+use Prim.Native.Nat.{ℕ, _+_, _≤_, _<_}
 use native.Mathlib.Decide.{ℕ-discrete, decLt}
-use native.Mathlib.Numerals.{add-one}
 use native.Mathlib.Omega.{arith}
 use lib.Dec.{T, eqb}
-use lib.ListN.{length, getD, set, drop, replicate, length-set, length-replicate, getD-replicate, drop-of-length-le, List·getD-eq-default}
-use lib.Seq.{drop-cons, getD-set-same, getD-set-other}
-use Rattle.model.specs.Code.{differencesFrom, differencesBy, allDifferent}
-use Rattle.model.specs.Symbols.{choose, sub, count}
-use Rattle.theory.specs.Counting.{is-true, eqb-yes, eqb-no, same-yes, same-no, count-nil, count-cons, All, distinct-count}
-use Rattle.theory.specs.Modulo.{sub-lt}
-use Rattle.theory.specs.Tables.{distinct-test, count-distinct}
+use lib.ListN.{length, getD, set, replicate, length-set, length-replicate, getD-replicate, List·getD-eq-default}
+use lib.Seq.{getD-set-same, getD-set-other}
+use Rattle.model.specs.Symbols.{choose, count}
+use Rattle.theory.specs.Counting.{eqb-yes, eqb-no, same-yes, same-no, count-nil, count-cons, All}
 
 -- whether all values were new, and the flags
 pub record Marks : Type 0 where
@@ -42,6 +38,20 @@ unfolding mark
 mark-append [] ys seen = refl
 mark-append (v ∷ xs) ys seen = onto-choose ys (eqb (getD seen v 0) 0) (mark xs (set seen v 1)) (mark (xs ++ ys) (set seen v 1)) seen (mark-append xs ys (set seen v 1))
 
+-- the first value is new
+pub mark-new : (v n : ℕ) (vs seen : List ℕ) → n ≡ 1 → getD seen v 0 ≡ 0 → mark (v ∷ vs) seen ≡ mark vs (set seen v n)
+unfolding mark
+mark-new v n vs seen e z = rw (eqb-yes (getD seen v 0) 0 z, e)
+
+-- its flag stands already
+pub mark-again : (v : ℕ) (vs seen : List ℕ) → getD seen v 0 ≢ 0 → mark (v ∷ vs) seen ≡ marksOf false seen
+unfolding mark
+mark-again v vs seen n = rw (eqb-no (getD seen v 0) 0 n)
+
+pub mark-none : (seen : List ℕ) → mark [] seen ≡ marksOf true seen
+unfolding mark
+mark-none seen = refl
+
 -- ---- when all were new
 
 -- marking moves one from the count of what is left to the flags
@@ -66,10 +76,12 @@ same-truth false false f g = refl
 true-false : false ≡ true → ⊥
 true-false e = subst T (sym e) tt
 
-abbrev Once : List ℕ → List ℕ → Type 0
+-- no value stands twice, and none whose flag stands already
+abbrev pub Once : List ℕ → List ℕ → Type 0
 Once vs seen = (w : ℕ) → getD seen w 0 + count w vs ≤ 1
 
-fresh-once : (vs seen : List ℕ) → All (λ v. v < length seen) vs → ((w : ℕ) → getD seen w 0 ≤ 1) → (mark vs seen .fresh ≡ true) ↔ Once vs seen
+-- all were new just where no value stands twice and none had its flag
+pub fresh-once : (vs seen : List ℕ) → All (λ v. v < length seen) vs → ((w : ℕ) → getD seen w 0 ≤ 1) → (mark vs seen .fresh ≡ true) ↔ Once vs seen
 unfolding mark
 fresh-once [] seen a le = (λ e w. omega (arith, le w, count-nil w), λ f. refl)
 fresh-once (v ∷ vs) seen a le = elim (ℕ-discrete (getD seen v 0) 0) as (λ o. (mark (v ∷ vs) seen .fresh ≡ true) ↔ Once (v ∷ vs) seen) [
@@ -81,87 +93,6 @@ fresh-once (v ∷ vs) seen a le = elim (ℕ-discrete (getD seen v 0) 0) as (λ o
   | no n ↦ rw (eqb-no (getD seen v 0) 0 n) (λ e. absurd (true-false e), λ f. absurd (omega (arith, f v, count-cons v v vs, same-yes v v refl)))
 ]
 
--- where no flag stands at first: all were new just where the values are all different
-pub fresh-different : (vs seen : List ℕ) → All (λ v. v < length seen) vs → ((w : ℕ) → getD seen w 0 ≡ 0) → mark vs seen .fresh ≡ allDifferent vs
-fresh-different vs seen a z =
-    let f = fresh-once vs seen a (λ w. omega (arith, z w)) in
-    same-truth (mark vs seen .fresh) (allDifferent vs)
-    (λ e. is-true (allDifferent vs) (distinct-test vs .1 (count-distinct vs (λ w. omega (arith, f .0 e w)))))
-    (λ e. f .1 (λ w. omega (arith, z w, distinct-count vs (distinct-test vs .0 (subst T (sym e) tt)) w)))
-
--- ---- the differences of positions
-
--- the marking of the differences from a, by one position b
-module _ (k a : ℕ) (ps : List ℕ) (l : ℕ) (seen : List ℕ) where
-  from-turn : l < length ps
-      → differencesFrom k a (drop l ps) ≡ choose (eqb a (getD ps l 0)) (differencesFrom k a (drop (l + 1) ps)) (sub k a (getD ps l 0) ∷ differencesFrom k a (drop (l + 1) ps))
-  unfolding differencesFrom
-  from-turn h = rw (add-one, drop-cons ps l 0)
-
-  -- b is a
-  pub mark-itself : l < length ps → a ≡ getD ps l 0 → mark (differencesFrom k a (drop l ps)) seen ≡ mark (differencesFrom k a (drop (l + 1) ps)) seen
-  mark-itself h e = rw (from-turn h, eqb-yes a (getD ps l 0) e)
-
-  -- the difference is new
-  pub mark-new : l < length ps → a ≢ getD ps l 0 → (v : ℕ) → v ≡ sub k a (getD ps l 0) → getD seen v 0 ≡ 0
-      → mark (differencesFrom k a (drop l ps)) seen ≡ mark (differencesFrom k a (drop (l + 1) ps)) (set seen v 1)
-  unfolding mark
-  mark-new h n v e z = rw (from-turn h, eqb-no a (getD ps l 0) n, ← e, eqb-yes (getD seen v 0) 0 z)
-
-  -- the difference was there before
-  pub mark-again : l < length ps → a ≢ getD ps l 0 → (v : ℕ) → v ≡ sub k a (getD ps l 0) → getD seen v 0 ≢ 0
-      → mark (differencesFrom k a (drop l ps)) seen ≡ marksOf false seen
-  unfolding mark
-  mark-again h n v e z = rw (from-turn h, eqb-no a (getD ps l 0) n, ← e, eqb-no (getD seen v 0) 0 z)
-
-  pub mark-done : length ps ≤ l → mark (differencesFrom k a (drop l ps)) seen ≡ marksOf true seen
-  unfolding mark differencesFrom
-  mark-done h = rw (drop-of-length-le ps h)
-
--- the marking of all differences, by those from one position
-module _ (k : ℕ) (ps : List ℕ) (i : ℕ) (seen : List ℕ) where
-  by-turn : i < length ps → differencesBy k (drop i ps) ps ≡ differencesFrom k (getD ps i 0) ps ++ differencesBy k (drop (i + 1) ps) ps
-  unfolding differencesBy
-  by-turn h = rw (add-one, drop-cons ps i 0)
-
-  pub marks-go : i < length ps → (r : Bool) (flags : List ℕ) → marksOf r flags ≡ mark (differencesFrom k (getD ps i 0) ps) seen → r ≡ true
-      → mark (differencesBy k (drop i ps) ps) seen ≡ mark (differencesBy k (drop (i + 1) ps) ps) flags
-  marks-go h r flags e t = rw (by-turn h, mark-append (differencesFrom k (getD ps i 0) ps) (differencesBy k (drop (i + 1) ps) ps) seen, ← e, t)
-
-  pub marks-stop : i < length ps → (r : Bool) (flags : List ℕ) → marksOf r flags ≡ mark (differencesFrom k (getD ps i 0) ps) seen → r ≡ false
-      → mark (differencesBy k (drop i ps) ps) seen ≡ marksOf false flags
-  marks-stop h r flags e t = rw (by-turn h, mark-append (differencesFrom k (getD ps i 0) ps) (differencesBy k (drop (i + 1) ps) ps) seen, ← e, t)
-
-  pub marks-done : length ps ≤ i → mark (differencesBy k (drop i ps) ps) seen ≡ marksOf true seen
-  unfolding mark differencesBy
-  marks-done h = rw (drop-of-length-le ps h)
-
-all-append : (P : ℕ → Type 0) (xs ys : List ℕ) → All P xs → All P ys → All P (xs ++ ys)
-all-append P [] ys a b = b
-all-append P (x ∷ xs) ys a b = (a .0, all-append P xs ys (a .1) b)
-
-module _ (k n : ℕ) (pos : zero < k) (fits : k ≤ n) where
-  from-below : (a : ℕ) (rs : List ℕ) → All (λ v. v < n) (differencesFrom k a rs)
-  unfolding differencesFrom
-  from-below a [] = tt
-  from-below a (b ∷ rs) = choose-all (eqb a b) (sub k a b) (differencesFrom k a rs) (omega (arith, sub-lt k pos a b)) (from-below a rs)
-    where
-      choose-all : (t : Bool) (v : ℕ) (vs : List ℕ) → v < n → All (λ x. x < n) vs → All (λ x. x < n) (choose t vs (v ∷ vs))
-      choose-all true v vs h g = g
-      choose-all false v vs h g = (h, g)
-
-  -- each difference is below k, so it has a flag
-  by-below : (ps rs : List ℕ) → All (λ v. v < n) (differencesBy k ps rs)
-  unfolding differencesBy
-  by-below [] rs = tt
-  by-below (a ∷ ps) rs = all-append (λ v. v < n) (differencesFrom k a rs) (differencesBy k ps rs) (from-below a rs) (by-below ps rs)
-
 -- flags that are all 0
 pub cleared : (n w : ℕ) → getD {A = ℕ} (replicate n 0) w 0 ≡ 0
 cleared n w = elim (decLt w n) [ yes h ↦ getD-replicate n w 0 0 h | no h ↦ List·getD-eq-default (replicate n 0) 0 (rw length-replicate (omega arith)) ]
-
--- what marking all differences tells
-pub marks-tell : (k : ℕ) (ps seen : List ℕ) → zero < k → k ≤ length seen → ((w : ℕ) → getD seen w 0 ≡ 0)
-    → (r : Bool) (flags : List ℕ) → marksOf r flags ≡ mark (differencesBy k ps ps) seen → r ≡ allDifferent (differencesBy k ps ps)
-marks-tell k ps seen pos fits z r flags e =
-    ap (λ (m : Marks). m .fresh) e ∙ fresh-different (differencesBy k ps ps) seen (by-below k (length seen) pos fits ps ps) z

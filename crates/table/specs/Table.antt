@@ -1,18 +1,19 @@
 -- Laws of the table check's tests.
-use mathlib.Core.Path.{_≡_, refl}
+use mathlib.Core.Path.{_≡_, refl, sym, _∙_, subst}
 use mathlib.Core.Bool.{Bool, true, false, not, _&&_}
 use mathlib.Core.List.{List, [], _∷_}
 use Prim.Native.Nat.{ℕ, zero, suc, _+_, _≤_, _<_}
 use native.Mathlib.Numerals.{add-one}
-use lib.Dec.{ltb, leb}
+use native.Mathlib.Omega.{arith}
+use lib.Dec.{T, ltb, leb, ltb→lt, leb→le}
 use lib.ListN.{length, getD, drop, drop-of-length-le}
 use lib.Seq.{drop-cons}
 use Rattle.model.specs.Calls.{test, firstThatApplies, positionsFit, codeTests, tableTests, tableAnswer}
-use Rattle.model.specs.Code.{Code, selfOrthogonal, differences, allDifferent}
-use Rattle.model.specs.Symbols.{choose, differ, Below}
+use Rattle.model.specs.Code.{Code, codeOf, selfOrthogonal, differencesBy, differences, allDifferent}
+use Rattle.model.specs.Symbols.{choose}
 use Rattle.theory.specs.Answers.{within-make}
-use Rattle.theory.specs.Counting.{All}
-use Rattle.theory.specs.Tables.{rising-facts, orthogonal-test, orthogonal-differences}
+use Rattle.theory.specs.Counting.{is-true, All}
+use Rattle.theory.specs.Tables.{and-split, orthogonal-test, orthogonal-differences}
 use Rattle.table.specs.Marks.{same-truth}
 
 -- q, k and J are within their limits
@@ -47,19 +48,45 @@ pub fit-end : (k least : ℕ) (ps : List ℕ) (i : ℕ) → length ps ≤ i → 
 unfolding positionsFit
 fit-end k least ps i h = rw (drop-of-length-le ps h)
 
-all-below : (k : ℕ) → zero < k → (ps : List ℕ) → All (λ p. p < k) ps → Below k ps
-all-below k pos [] a i = pos
-all-below k pos (p ∷ ps) a zero = a .0
-all-below k pos (p ∷ ps) a (suc i) = all-below k pos ps (a .1) i
+-- ---- what positions that pass are
 
--- positions that pass are below k
-pub fit-below : (k : ℕ) → zero < k → (ps : List ℕ) → positionsFit k 0 ps ≡ true → Below k ps
-fit-below k pos ps e = all-below k pos ps (rising-facts k 0 ps e .0)
+pub fit-cons : (k least p : ℕ) (ps : List ℕ) → positionsFit k least (p ∷ ps) ≡ true → (least ≤ p) × (p < k) × (positionsFit k (suc p) ps ≡ true)
+unfolding positionsFit
+fit-cons k least p ps t =
+    let s = and-split (ltb p k) (leb least p && positionsFit k (suc p) ps) (subst T (sym t) tt) in
+    let r = and-split (leb least p) (positionsFit k (suc p) ps) (s .1) in
+    (leb→le least p (r .0), ltb→lt p k (s .0), is-true (positionsFit k (suc p) ps) (r .1))
+
+-- from `least`, and so from `low`, to k
+pub fit-above : (k low least : ℕ) → low ≤ least → (ps : List ℕ) → positionsFit k least ps ≡ true → All (λ a. (low ≤ a) × (a < k)) ps
+fit-above k low least h [] t = tt
+fit-above k low least h (p ∷ ps) t =
+    let f = fit-cons k least p ps t in
+    ((omega (arith, f .0), f .1), fit-above k low (suc p) (omega (arith, f .0)) ps (f .2))
+
+pub fit-at : (k least : ℕ) (ps : List ℕ) → positionsFit k least ps ≡ true → (i : ℕ) → i < length ps → (least ≤ getD ps i 0) × (getD ps i 0 < k)
+fit-at k least [] t i h = absurd (omega arith)
+fit-at k least (p ∷ ps) t zero h = let f = fit-cons k least p ps t in (f .0, f .1)
+fit-at k least (p ∷ ps) t (suc i) h =
+    let f = fit-cons k least p ps t in
+    let g = fit-at k (suc p) ps (f .2) i (omega arith) in
+    (omega (arith, f .0, g .0), g .1)
+
+-- those after position i are above it
+pub fit-later : (k least : ℕ) (ps : List ℕ) → positionsFit k least ps ≡ true → (i : ℕ) → i < length ps → positionsFit k (getD ps i 0 + 1) (drop (i + 1) ps) ≡ true
+fit-later k least ps t i h = rw (add-one i, add-one (getD ps i 0)) (go least ps t i h)
+  where
+    go : (least : ℕ) (ps : List ℕ) → positionsFit k least ps ≡ true → (i : ℕ) → i < length ps → positionsFit k (suc (getD ps i 0)) (drop (suc i) ps) ≡ true
+    go least [] t i h = absurd (omega arith)
+    go least (p ∷ ps) t zero h = fit-cons k least p ps t .2
+    go least (p ∷ ps) t (suc i) h = go (suc p) ps (fit-cons k least p ps t .2) i (omega arith)
 
 -- ---- self-orthogonality
 
-pub orthogonal-different : (c : Code) → zero < c .k → positionsFit (c .k) 0 (c .positions) ≡ true → selfOrthogonal c ≡ allDifferent (differences c)
-orthogonal-different c pos e =
+-- what the differences tell, whatever q is
+pub orthogonal-told : (k : ℕ) (ps : List ℕ) → zero < k → positionsFit k 0 ps ≡ true → (r : Bool) → r ≡ allDifferent (differencesBy k ps ps) → (q : ℕ) → r ≡ selfOrthogonal (codeOf q k ps)
+orthogonal-told k ps pos e r d q =
+    let c = codeOf q k ps in
     let test = orthogonal-test c in
     let differ = orthogonal-differences c pos e in
-    same-truth (selfOrthogonal c) (allDifferent (differences c)) (λ t. differ .0 (test .0 t)) (λ t. test .1 (differ .1 t))
+    d ∙ same-truth (allDifferent (differences c)) (selfOrthogonal c) (λ t. test .1 (differ .1 t)) (λ t. differ .0 (test .0 t))

@@ -1,12 +1,13 @@
 // The table check: the limits of q, k and J, the positions, and self-orthogonality by marking the differences of positions.
 ghost use mathlib.Core.Path.{_≡_};
 ghost use mathlib.Core.Bool.{true};
-ghost use Prim.Native.Nat.{ℕ, _<_, _≤_};
+ghost use Prim.Native.Nat.{ℕ, _+_, _<_, _≤_};
 ghost use lib.ListN.{length, getD};
-ghost use Rattle.model.specs.Symbols.{sub, Below};
-ghost use Rattle.model.specs.Code.{codeOf, selfOrthogonal, differencesFrom, differencesBy, allDifferent};
+ghost use Rattle.model.specs.Symbols.{same};
+ghost use Rattle.model.specs.Code.{codeOf, selfOrthogonal, differencesBy, allDifferent};
 ghost use Rattle.model.specs.Calls.{positionsFit, tableAnswer};
 ghost use Rattle.table.specs.Marks.{marksOf, mark};
+ghost use Rattle.table.specs.Folded.{fold, foldedFrom};
 
 // Each position is below k and above the one before it.
 fn positions_fit(k: u32, positions: &[u16]) -> bool
@@ -28,60 +29,74 @@ fn positions_fit(k: u32, positions: &[u16]) -> bool
     true
 }
 
-// (a − b) mod k, by one comparison.
-fn difference(k: usize, a: usize, b: usize) -> usize
-    requires { ⌜ (a < k) × (b < k) ⌝ }
-    ensures { λ r. ⌜ r ≡ sub k a b ⌝ }
+// Of a difference d and its opposite, k − d, the smaller.
+fn folded(k: usize, d: usize) -> usize
+    requires { ⌜ d ≤ k ⌝ }
+    ensures { λ r. ⌜ r ≡ fold k d ⌝ }
 {
-    if b <= a { a - b } else { k - (b - a) }
+    let e = k - d;
+    if d < e { d } else { e }
 }
 
-// Marks (a − b) mod k in `seen` for the positions b other than a, up to the first that is marked already.
-fn mark_from(k: usize, a: usize, positions: &[u16], seen: &mut [u8]) -> bool
-    requires { ⌜ (a < k) × Below k (now positions) × (k ≤ length (now seen)) ⌝ }
-    ensures { λ r. ⌜ marksOf r (now (seen .exit)) ≡ mark (differencesFrom k a (now (positions .entry))) (now (seen .entry)) ⌝ }
+// 1 where a value is half of k, else 0.
+fn is_half(v: usize, k: usize) -> u8
+    requires { ⌜ v + v ≤ k ⌝ }
+    ensures { λ r. ⌜ r ≡ same (v + v) k ⌝ }
+{
+    if v + v == k { 1 } else { 0 }
+}
+
+// Marks the folded differences of the later positions from b in `seen`, up to the first that is marked already.
+fn mark_from(k: usize, b: usize, later: &[u16], seen: &mut [u8]) -> bool
+    requires { ⌜ (positionsFit k (b + 1) (now later) ≡ true) × (k < length (now seen) + length (now seen)) ⌝ }
+    ensures { λ r. ⌜ marksOf r (now (seen .exit)) ≡ mark (foldedFrom k b (now (later .entry))) (now (seen .entry)) ⌝ }
 {
     let mut l = 0;
-    while l < positions.len() {
-        let b = positions[l] as usize;
-        if a != b {
-            let v = difference(k, a, b);
-            if seen[v] != 0 {
-                return false;
-            }
-            seen[v] = 1;
+    while l < later.len() {
+        let a = later[l] as usize;
+        let v = folded(k, a - b);
+        if seen[v] != 0 {
+            return false;
         }
+        seen[v] = 1;
         l += 1;
     }
     true
 }
 
-// The differences of all ordered pairs of different positions are all different. `seen` has a flag, 0 at first, for each value below k.
+// The differences of all ordered pairs of different positions are all different. `seen` has a flag, 0 at first, for each value up to half of k.
+// A difference that is half of k is its own opposite and would stand twice, so its flag is set beforehand.
 fn differences_differ(k: usize, positions: &[u16], seen: &mut [u8]) -> bool
-    requires { ⌜ Below k (now positions) × (k ≤ length (now seen)) × ((v : ℕ) → getD (now seen) v 0 ≡ 0) ⌝ }
+    requires { ⌜ (0 < k) × (positionsFit k 0 (now positions) ≡ true) × (k < length (now seen) + length (now seen)) × ((v : ℕ) → getD (now seen) v 0 ≡ 0) ⌝ }
     ensures { λ r. ⌜ r ≡ allDifferent (differencesBy k (now (positions .entry)) (now (positions .entry))) ⌝ }
 {
+    let half = k / 2;
+    seen[half] = is_half(half, k);
     let mut i = 0;
     while i < positions.len() {
-        let a = positions[i] as usize;
-        if !mark_from(k, a, positions, seen) {
+        let b = positions[i] as usize;
+        i += 1;
+        if !mark_from(k, b, &positions[i..], seen) {
             return false;
         }
-        i += 1;
     }
     true
 }
 
-// The table is self-orthogonal, whatever q is. A small code clears few flags.
+// The table is self-orthogonal, whatever q is. A smaller code clears fewer flags.
 fn self_orthogonal(k: usize, positions: &[u16]) -> bool
     requires { ⌜ (0 < k) × (k ≤ 4096) × (positionsFit k 0 (now positions) ≡ true) ⌝ }
     ensures { λ r. ⌜ ((q : ℕ) → r ≡ selfOrthogonal (codeOf q k (now (positions .entry)))) ⌝ }
 {
     if k <= 64 {
-        let mut few = [0u8; 64];
+        let mut few = [0u8; 33];
         return differences_differ(k, positions, &mut few);
     }
-    let mut seen = [0u8; 4096];
+    if k <= 1024 {
+        let mut more = [0u8; 513];
+        return differences_differ(k, positions, &mut more);
+    }
+    let mut seen = [0u8; 2049];
     differences_differ(k, positions, &mut seen)
 }
 

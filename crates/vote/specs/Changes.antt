@@ -1,5 +1,6 @@
--- When a visit is a change, by the counts that a vote gives.
-use mathlib.Core.Path.{_≡_, refl}
+-- When a visit is a change, by the counts that a vote gives, and when it is none, by a count of each value.
+use mathlib.Core.Path.{_≡_, refl, sym}
+use mathlib.Core.Logic.{_≢_}
 use mathlib.Core.Bool.{false, not, _&&_}
 use mathlib.Core.List.{List}
 use Prim.Native.Nat.{ℕ, _+_, _-_, _≤_}
@@ -13,14 +14,16 @@ use Rattle.theory.specs.Counting.{is-false, count-misses, count-other}
 use Rattle.theory.specs.Falling.{isChange-facts}
 use Rattle.theory.specs.Voting.{next-max}
 
--- the definition's equation
-pub isChange-at : (t : ℕ) (es : List ℕ) → isChange t es ≡ (ltb t (leadCount es - nextCount es) && not (eqb (leader es) 0))
-unfolding isChange
-isChange-at t es = refl
-
 -- where the zeros, counted twice, and t make up the number of estimates, the leader is 0 or no more than t ahead
 pub no-change : (t : ℕ) (es : List ℕ) → length es ≤ count 0 es + count 0 es + t → isChange t es ≡ false
 unfolding leadCount
 no-change t es h =
     is-false (isChange t es)
     (λ w. let f = isChange-facts t es w in omega (arith, f .0, next-max es 0 (f .1), count-other 0 (leader es) es (f .1), count-misses (leader es) es))
+
+-- where no value but 0 leads the zeros by more than t, no visit is a change: its leader would
+pub no-change-by : (t : ℕ) (es : List ℕ) → ((v : ℕ) → v ≢ 0 → count v es ≤ count 0 es + t) → isChange t es ≡ false
+unfolding leadCount
+no-change-by t es h =
+    is-false (isChange t es)
+    (λ w. let f = isChange-facts t es w in omega (arith, f .0, next-max es 0 (f .1), h (leader es) (λ e. f .1 (sym e))))

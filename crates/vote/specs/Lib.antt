@@ -2,3 +2,4 @@
 pub mod Checks
 pub mod Leading
 pub mod Changes
+pub mod Counters

@@ -1,11 +1,13 @@
-// The vote over the estimates of a data symbol, and the steps of a visit that read, gather and subtract at its checks.
+// The vote over the estimates of a data symbol, a quick test before it, and the gathering of the estimates.
 ghost use mathlib.Core.Path.{_≡_};
+ghost use mathlib.Core.Logic.{_≢_};
+ghost use mathlib.Core.Bool.{false};
 ghost use mathlib.Core.List.{_∷_};
-ghost use Prim.Native.Nat.{_+_, _%_, _<_, _≤_, max};
+ghost use Prim.Native.Nat.{ℕ, _+_, _%_, _<_, _≤_, max};
 ghost use lib.Dec.{eqb};
 ghost use lib.ListN.{length};
 ghost use Rattle.model.specs.Code.{checksBy};
-ghost use Rattle.model.specs.Symbols.{choose, same, count, Below, symbolsAt, subtractAt};
+ghost use Rattle.model.specs.Symbols.{choose, same, count, symbolsAt};
 ghost use Rattle.model.specs.Vote.{goesBefore, leader, leadCount, otherCount, nextCount, zeroCount};
 ghost use Rattle.vote.specs.Checks.{AtChecks};
 ghost use Rattle.vote.specs.Leading.{leadOf};
@@ -128,6 +130,27 @@ pub fn vote_over(es: &[u8]) -> Vote
     }
 }
 
+// A quick test before the vote: where it says no, no value but 0 stands among the estimates more often than the bound.
+pub fn may_change(es: &[u8], bound: u8) -> bool
+    requires { ⌜ length (now es) ≤ 33 ⌝ }
+    ensures { λ r. ⌜ (r ≡ false → (v : ℕ) → v ≢ 0 → count v (now (es .entry)) ≤ bound) ⌝ }
+{
+    let mut counters = [0u8; 256];
+    let mut i = 0;
+    while i < es.len() {
+        let e = es[i] as usize;
+        let c = counters[e] + 1;
+        counters[e] = c;
+        if e != 0 {
+            if bound < c {
+                return true;
+            }
+        }
+        i += 1;
+    }
+    false
+}
+
 // The check of data symbol j by position p.
 fn check_index(k: usize, j: usize, p: u16) -> usize
     requires { ⌜ (j < k) × (p < k) × (k ≤ 4096) ⌝ }
@@ -135,21 +158,6 @@ fn check_index(k: usize, j: usize, p: u16) -> usize
 {
     let i = j + (p as usize);
     if i < k { i } else { i - k }
-}
-
-// The zeros of the syndrome at the checks of data symbol j.
-pub fn zeros_at(k: usize, positions: &[u16], j: usize, syndrome: &[u8]) -> u32
-    requires { ⌜ AtChecks k (now positions) j (now syndrome) ⌝ }
-    ensures { λ r. ⌜ r ≡ count 0 (symbolsAt (now (syndrome .entry)) (checksBy k (now (positions .entry)) j)) ⌝ }
-{
-    let mut n: u8 = 0;
-    let mut i = 0;
-    while i < positions.len() {
-        let c = check_index(k, j, positions[i]);
-        n += equal(0, syndrome[c]);
-        i += 1;
-    }
-    n as u32
 }
 
 // The estimates of data symbol j: its own difference, and the syndrome at each of its checks.
@@ -163,18 +171,5 @@ pub fn gather(k: usize, positions: &[u16], j: usize, syndrome: &[u8], own: u8, e
         let c = check_index(k, j, positions[i]);
         i += 1;
         es[i] = syndrome[c];
-    }
-}
-
-// h subtracted from the syndrome at each check of data symbol j.
-pub fn subtract_checks(top: u8, k: usize, positions: &[u16], j: usize, h: u8, syndrome: &mut [u8])
-    requires { ⌜ AtChecks k (now positions) j (now syndrome) × (h ≤ top) × Below (top + 1) (now syndrome) ⌝ }
-    ensures { λ r. ⌜ now (syndrome .exit) ≡ subtractAt (top + 1) h (checksBy k (now (positions .entry)) j) (now (syndrome .entry)) ⌝ }
-{
-    let mut i = 0;
-    while i < positions.len() {
-        let c = check_index(k, j, positions[i]);
-        syndrome[c] = symbols::sub_mod(top, syndrome[c], h);
-        i += 1;
     }
 }

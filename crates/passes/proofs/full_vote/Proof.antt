@@ -1,15 +1,13 @@
 -- `passes::full_vote` meets its contract: the part of the buffer that is voted on holds the estimates.
 use borrow.Author.Needs.{needs}
 use mathlib.Core.Path.{_≡_, sym, _∙_, ap}
-use mathlib.Core.List.{List, _∷_}
-use Prim.Native.Nat.{ℕ, _+_, _≤_}
+use mathlib.Core.List.{List}
+use Prim.Native.Nat.{ℕ}
 use native.Mathlib.Omega.{arith}
 use lib.ListN.{length, length-append}
 use lib.Seq.{length-take-le}
-use Rattle.model.specs.Symbols.{symbolsAt}
-use Rattle.model.specs.Code.{checksBy}
-use Rattle.theory.specs.Voting.{next-le-lead}
-use Rattle.passes.specs.Visits.{estimates-length, gathered-length, gathered-within, gathered-vote, subtract-behind, subtract-leader}
+use Rattle.model.specs.Symbols.{count}
+use Rattle.passes.specs.Visits.{toSubtract, estimates-length, gathered, gathered-length, gathered-within}
 use Rattle.passes.proofs.full_vote.Statement.{statement}
 use Rattle.passes.proofs.full_vote.Tie as tie
 
@@ -30,30 +28,22 @@ array-share-prefix-es c =
     let a = c .before .before .before .before .before .args in
     simp length-append (omega (arith, ap length (c .before .gather .ensures), estimates-length (a .own) (a .s .now) (a .k) (a .positions .now) (a .j)))
 
-slice-aggregate-vote-over : tie.Need-slice-aggregate-vote-over
-slice-aggregate-vote-over c =
+slice-aggregate-decided : tie.Need-slice-aggregate-decided
+slice-aggregate-decided c =
     let a = c .before .before .before .before .before .before .args in
     sym (gathered-length _ _ _ _ (c .before .before .gather .ensures) (estimates-length (a .own) (a .s .now) (a .k) (a .positions .now) (a .j)))
 
-vote-over-requires : tie.Need-vote-over-requires
-vote-over-requires c κs =
-    let a = c .before .before .before .before .before .before .args in
-    gathered-within _ _ _ _ (c .before .before .gather .ensures) (estimates-length (a .own) (a .s .now) (a .k) (a .positions .now) (a .j)) 2 33 (omega arith) (omega arith)
-
-sub-if1 : tie.Need-sub-if1
-sub-if1 c = rw (c .before .vote-over .ensures) (next-le-lead _)
+decided-requires : tie.Need-decided-requires
+decided-requires c κs =
+    let b = c .before .before .before .before .before .before in
+    let a = b .args in
+    let w = gathered-within _ _ _ _ (c .before .before .gather .ensures) (estimates-length (a .own) (a .s .now) (a .k) (a .positions .now) (a .j)) 2 33 (omega arith) (omega arith) in
+    (w .0, w .1, b .pre .2 ∙ sym (ap (λ (l : List ℕ). count 0 l) (gathered _ _ _ _ (c .before .before .gather .ensures) (estimates-length (a .own) (a .s .now) (a .k) (a .positions .now) (a .j)))), b .pre .3)
 
 returns : tie.Need-returns
 returns c =
-    let a = c .before .before .before .before .before .before .before .before .before .args in
-    let v = gathered-vote _ _ _ _ (c .before .before .before .before .before .gather .ensures) (estimates-length (a .own) (a .s .now) (a .k) (a .positions .now) (a .j)) _ (c .before .before .vote-over .ensures) in
-    subtract-behind (a .threshold) (a .own ∷ symbolsAt (a .s .now) (checksBy (a .k) (a .positions .now) (a .j))) (omega (arith, v .1, v .2, c .if1 .taken))
-
-returns-2 : tie.Need-returns-2
-returns-2 c =
-    let a = c .before .before .before .before .before .before .before .before .before .args in
-    let v = gathered-vote _ _ _ _ (c .before .before .before .before .before .gather .ensures) (estimates-length (a .own) (a .s .now) (a .k) (a .positions .now) (a .j)) _ (c .before .before .vote-over .ensures) in
-    v .0 ∙ subtract-leader (a .threshold) (a .own ∷ symbolsAt (a .s .now) (checksBy (a .k) (a .positions .now) (a .j))) (omega (arith, v .1, v .2, c .if1 .left))
+    let a = c .before .before .before .before .before .before .before .args in
+    c .decided .ensures ∙ ap (λ (l : List ℕ). toSubtract (a .threshold) l) (gathered _ _ _ _ (c .before .before .before .gather .ensures) (estimates-length (a .own) (a .s .now) (a .k) (a .positions .now) (a .j)))
 
 pub full-vote-spec : {M : Type 1} → statement M
 full-vote-spec =
@@ -64,8 +54,6 @@ full-vote-spec =
     slice-aggregate-gather
     gather-requires
     array-share-prefix-es
-    slice-aggregate-vote-over
-    vote-over-requires
-    sub-if1
-    returns
-    returns-2)
+    slice-aggregate-decided
+    decided-requires
+    returns)

@@ -1,59 +1,55 @@
--- `mark_from` marks the differences from a in order. The loop's invariant: marking what is left gives what marking all gives.
-use mathlib.Core.Path.{_≡_, refl, sym, _∙_}
-use mathlib.Core.Logic.{⊎-elim}
-use Prim.Native.Nat.{_≤_, _-_}
+-- `mark_from` marks the folded differences from b in order. The loop's invariant: marking what is left gives what marking all gives.
+use mathlib.Core.Path.{_≡_, refl, sym, ap, _∙_}
+use mathlib.Core.List.{List, _∷_}
+use Prim.Native.Nat.{ℕ, _≤_, _-_, _+_}
 use native.Mathlib.Omega.{arith}
 use borrow.Author.Needs.{needs}
-use lib.ListN.{length, drop, getD, length-set}
-use Rattle.model.specs.Code.{differencesFrom}
-use Rattle.theory.specs.Modulo.{sub-lt}
-use Rattle.table.specs.Marks.{mark, mark-itself, mark-new, mark-again, mark-done}
+use lib.ListN.{length, drop, length-set}
+use Rattle.table.specs.Marks.{mark, mark-new, mark-again}
+use Rattle.table.specs.Table.{fit-at}
+use Rattle.table.specs.Folded.{foldedFrom, from-turn, from-end}
 use Rattle.table.proofs.mark_from.Statement.{statement}
 use Rattle.table.proofs.mark_from.Tie as tie
 
 abbrev Inv-loop : tie.InvT-loop
-Inv-loop k a positions seen₀ l₀ seen l = (l ≤ length positions) × (length seen ≡ length seen₀) × (mark (differencesFrom k a (drop l positions)) seen ≡ mark (differencesFrom k a positions) seen₀)
+Inv-loop k b later seen₀ l₀ seen l = (l ≤ length later) × (length seen ≡ length seen₀) × (mark (foldedFrom k b (drop l later)) seen ≡ mark (foldedFrom k b later) seen₀)
 
 abbrev μ-loop : tie.MeasureT-loop
-μ-loop k a positions seen₀ l₀ seen l = length positions - l
+μ-loop k b later seen₀ l₀ seen l = length later - l
 
 loop-holds : tie.Need-loop-holds Inv-loop μ-loop
 loop-holds c = (omega arith, refl, refl)
 
-mul-b : tie.Need-mul-b Inv-loop μ-loop
-mul-b c = omega arith
+mul-a : tie.Need-mul-a Inv-loop μ-loop
+mul-a c = omega arith
 
-shared-slice-read-b : tie.Need-shared-slice-read-b Inv-loop μ-loop
-shared-slice-read-b c = omega arith
+shared-slice-read-a : tie.Need-shared-slice-read-a Inv-loop μ-loop
+shared-slice-read-a c = omega arith
 
-cast-b : tie.Need-cast-b Inv-loop μ-loop
-cast-b c = omega (arith, c .shared-slice-known2 .given (c .before .before .loop .l))
+cast-a : tie.Need-cast-a Inv-loop μ-loop
+cast-a c = omega (arith, c .shared-slice-known2 .given (c .before .before .loop .l))
 
-difference-requires : tie.Need-difference-requires Inv-loop μ-loop
-difference-requires c κs =
-    let b = c .before .before .before in
-    omega (arith, b .before .before .before .pre .1 (b .loop .l))
+sub-folded : tie.Need-sub-folded Inv-loop μ-loop
+sub-folded c = let b = c .before .before in omega (arith, fit-at _ _ _ (b .before .before .before .pre .0) (b .loop .l) (omega arith))
 
-slice-read-if2 : tie.Need-slice-read-if2 Inv-loop μ-loop
-slice-read-if2 c =
-    let b = c .before .before .before .before .before in
-    let x = b .before .before .before .args in
-    omega (arith, c .before .difference .ensures, sub-lt (x .k) (omega arith) (x .a) (getD (x .positions .now) (b .loop .l) 0))
+folded-requires : tie.Need-folded-requires Inv-loop μ-loop
+folded-requires c κs = let b = c .before .before in omega (arith, fit-at _ _ _ (b .before .before .before .pre .0) (b .loop .l) (omega arith))
+
+slice-read-if1 : tie.Need-slice-read-if1 Inv-loop μ-loop
+slice-read-if1 c = let b = c .before .before .before .before in omega (arith, c .before .folded .ensures, fit-at _ _ _ (b .before .before .before .pre .0) (b .loop .l) (omega arith))
 
 same-length : tie.Need-same-length Inv-loop μ-loop
 same-length c = search needs
 
 returns : tie.Need-returns Inv-loop μ-loop
 returns c =
-    let b = c .before .before .before .before .before .before in
+    let b = c .before .before .before .before .before in
     let x = b .before .before .before .args in
-    sym (mark-again (x .k) (x .a) (x .positions .now) (b .loop .l) (b .loop .seen) (omega arith) (omega arith) _ (c .before .before .difference .ensures) (c .if2 .taken)) ∙ b .loop .inv .2
+    let turn = from-turn (x .k) (x .b) (x .later .now) (b .loop .l) (omega arith) ∙ ap (λ (v : ℕ). v ∷ foldedFrom (x .k) (x .b) (drop (b .loop .l + 1) (x .later .now))) (sym (c .before .before .folded .ensures)) in
+    sym (ap (λ (vs : List ℕ). mark vs (b .loop .seen)) turn ∙ mark-again _ _ _ (c .if1 .taken)) ∙ b .loop .inv .2
 
 slice-write-seen : tie.Need-slice-write-seen Inv-loop μ-loop
-slice-write-seen c =
-    let b = c .before .before .before .before .before .before in
-    let x = b .before .before .before .args in
-    omega (arith, c .before .before .difference .ensures, sub-lt (x .k) (omega arith) (x .a) (getD (x .positions .now) (b .loop .l) 0))
+slice-write-seen c = let b = c .before .before .before .before .before in omega (arith, c .before .before .folded .ensures, fit-at _ _ _ (b .before .before .before .pre .0) (b .loop .l) (omega arith))
 
 add-l : tie.Need-add-l Inv-loop μ-loop
 add-l c = omega arith
@@ -63,12 +59,10 @@ loop-less c = omega arith
 
 loop-again : tie.Need-loop-again Inv-loop μ-loop
 loop-again c =
-    let b = c .before .before .before in
+    let b = c .before .before .before .before .before in
     let x = b .before .before .before .args in
-    ⊎-elim
-    (λ w. (omega arith, rw (w .4) (simp length-set (b .loop .inv .1)), rw (w .4) (sym (mark-new (x .k) (x .a) (x .positions .now) (b .loop .l) (b .loop .seen) (omega arith) (omega arith) _ (w .1 .ensures) (w .3 .left)) ∙ b .loop .inv .2)))
-    (λ w. (omega arith, rw (w .1) (b .loop .inv .1), rw (w .1) (sym (mark-itself (x .k) (x .a) (x .positions .now) (b .loop .l) (b .loop .seen) (omega arith) (omega arith)) ∙ b .loop .inv .2)))
-    (c .if1 .came)
+    let turn = from-turn (x .k) (x .b) (x .later .now) (b .loop .l) (omega arith) ∙ ap (λ (v : ℕ). v ∷ foldedFrom (x .k) (x .b) (drop (b .loop .l + 1) (x .later .now))) (sym (c .before .before .folded .ensures)) in
+    (omega arith, simp length-set (b .loop .inv .1), sym (ap (λ (vs : List ℕ). mark vs (b .loop .seen)) turn ∙ mark-new _ _ _ _ (omega arith) (c .if1 .left)) ∙ b .loop .inv .2)
 
 same-length-2 : tie.Need-same-length-2 Inv-loop μ-loop
 same-length-2 c = search needs
@@ -77,7 +71,7 @@ returns-2 : tie.Need-returns-2 Inv-loop μ-loop
 returns-2 c =
     let b = c .before in
     let x = b .before .before .before .args in
-    sym (mark-done (x .k) (x .a) (x .positions .now) (b .loop .l) (b .loop .seen) (omega arith)) ∙ b .loop .inv .2
+    sym (from-end (x .k) (x .b) (x .later .now) (b .loop .l) (b .loop .seen) (omega arith)) ∙ b .loop .inv .2
 
 pub mark-from-spec : {M : Type 1} → statement M
 mark-from-spec =
@@ -86,11 +80,12 @@ mark-from-spec =
     Inv-loop
     μ-loop
     loop-holds
-    mul-b
-    shared-slice-read-b
-    cast-b
-    difference-requires
-    slice-read-if2
+    mul-a
+    shared-slice-read-a
+    cast-a
+    sub-folded
+    folded-requires
+    slice-read-if1
     same-length
     returns
     slice-write-seen

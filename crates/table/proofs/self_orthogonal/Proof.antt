@@ -1,9 +1,7 @@
--- `self_orthogonal` tests the differences with cleared flags, 64 or 4096 of them.
-use mathlib.Core.Path.{sym, _∙_}
+-- `self_orthogonal` tests the differences with cleared flags, 33, 513 or 2049 of them.
 use native.Mathlib.Omega.{arith}
 use Rattle.table.specs.Marks.{cleared}
-use Rattle.model.specs.Code.{codeOf}
-use Rattle.table.specs.Table.{fit-below, orthogonal-different}
+use Rattle.table.specs.Table.{orthogonal-told}
 use borrow.Author.Needs.{needs}
 use Rattle.table.proofs.self_orthogonal.Statement.{statement}
 use Rattle.table.proofs.self_orthogonal.Tie as tie
@@ -12,27 +10,28 @@ slice-aggregate-differences-differ : tie.Need-slice-aggregate-differences-differ
 slice-aggregate-differences-differ c = search needs
 
 differences-differ-requires : tie.Need-differences-differ-requires
-differences-differ-requires c κs =
-    let s = c .before .before .before in
-    (fit-below (s .args .k) (omega arith) (s .args .positions .now) (s .pre .2), omega arith, cleared 64)
+differences-differ-requires c κs = let s = c .before .before .before in (omega arith, s .pre .2, omega arith, cleared 33)
 
 returns : tie.Need-returns
-returns c = λ q.
-    let s = c .before .before .before .before .before in
-    c .before .differences-differ .ensures ∙ sym (orthogonal-different (codeOf q (s .args .k) (s .args .positions .now)) (omega arith) (s .pre .2))
+returns c = let s = c .before .before .before .before .before in orthogonal-told (s .args .k) (s .args .positions .now) (s .pre .0) (s .pre .2) _ (c .before .differences-differ .ensures)
 
 slice-aggregate-differences-differ-2 : tie.Need-slice-aggregate-differences-differ-2
 slice-aggregate-differences-differ-2 c = search needs
 
 differences-differ-requires-2 : tie.Need-differences-differ-requires-2
-differences-differ-requires-2 c κs =
-    let s = c .before .before .before in
-    (fit-below (s .args .k) (omega arith) (s .args .positions .now) (s .pre .2), omega arith, cleared 4096)
+differences-differ-requires-2 c κs = let s = c .before .before .before .before in (omega arith, s .pre .2, omega arith, cleared 513)
 
 returns-2 : tie.Need-returns-2
-returns-2 c = λ q.
-    let s = c .before .before .before .before .before in
-    c .before .differences-differ2 .ensures ∙ sym (orthogonal-different (codeOf q (s .args .k) (s .args .positions .now)) (omega arith) (s .pre .2))
+returns-2 c = let s = c .before .before .before .before .before .before in orthogonal-told (s .args .k) (s .args .positions .now) (s .pre .0) (s .pre .2) _ (c .before .differences-differ2 .ensures)
+
+slice-aggregate-differences-differ-3 : tie.Need-slice-aggregate-differences-differ-3
+slice-aggregate-differences-differ-3 c = search needs
+
+differences-differ-requires-3 : tie.Need-differences-differ-requires-3
+differences-differ-requires-3 c κs = let s = c .before .before .before .before in (omega arith, s .pre .2, omega arith, cleared 2049)
+
+returns-3 : tie.Need-returns-3
+returns-3 c = let s = c .before .before .before .before .before .before in orthogonal-told (s .args .k) (s .args .positions .now) (s .pre .0) (s .pre .2) _ (c .before .differences-differ3 .ensures)
 
 pub self-orthogonal-spec : {M : Type 1} → statement M
 self-orthogonal-spec =
@@ -43,4 +42,7 @@ self-orthogonal-spec =
     returns
     slice-aggregate-differences-differ-2
     differences-differ-requires-2
-    returns-2)
+    returns-2
+    slice-aggregate-differences-differ-3
+    differences-differ-requires-3
+    returns-3)

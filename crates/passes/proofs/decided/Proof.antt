@@ -1,0 +1,55 @@
+-- `passes::decided` meets its contract.
+use borrow.Author.Needs.{needs}
+use borrow.Author.Tests.{not-true}
+use mathlib.Core.Path.{_≡_, ap, _∙_}
+use native.Mathlib.Omega.{arith}
+use Rattle.theory.specs.Voting.{next-le-lead}
+use Rattle.vote.specs.declared.Vote.{Vote}
+use Rattle.vote.specs.Changes.{no-change-by}
+use Rattle.passes.specs.Visits.{subtract-left, subtract-behind, subtract-leader}
+use Rattle.passes.proofs.decided.Statement.{statement}
+use Rattle.passes.proofs.decided.Tie as tie
+
+add-may-change : tie.Need-add-may-change
+add-may-change c = search needs
+
+may-change-requires : tie.Need-may-change-requires
+may-change-requires c κs = search needs
+
+returns : tie.Need-returns
+returns c =
+    let b = c .before .before .before in
+    let a = b .args in
+    subtract-left (a .threshold) (a .es .now)
+    (no-change-by (a .threshold) (a .es .now) (λ v n. omega (arith, b .pre .2, c .before .may-change .ensures (not-true (c .before .may-change .result) (c .if1 .taken)) v n)))
+
+vote-over-requires : tie.Need-vote-over-requires
+vote-over-requires c κs = search needs
+
+sub-if2 : tie.Need-sub-if2
+sub-if2 c = rw (c .before .vote-over .ensures) (next-le-lead _)
+
+returns-2 : tie.Need-returns-2
+returns-2 c =
+    let a = c .before .before .before .before .before .before .args in
+    let e = c .before .before .vote-over .ensures in
+    subtract-behind (a .threshold) (a .es .now) (omega (arith, ap (λ (v : Vote). v .lead) e, ap (λ (v : Vote). v .next) e, c .if2 .taken))
+
+returns-3 : tie.Need-returns-3
+returns-3 c =
+    let a = c .before .before .before .before .before .before .args in
+    let e = c .before .before .vote-over .ensures in
+    ap (λ (v : Vote). v .leader) e
+    ∙ subtract-leader (a .threshold) (a .es .now) (omega (arith, ap (λ (v : Vote). v .lead) e, ap (λ (v : Vote). v .next) e, c .if2 .left))
+
+pub decided-spec : {M : Type 1} → statement M
+decided-spec =
+    tie.close
+    (tie.spec
+    add-may-change
+    may-change-requires
+    returns
+    vote-over-requires
+    sub-if2
+    returns-2
+    returns-3)

@@ -1,0 +1,5 @@
+-- The zeros at the checks of every data symbol, and the laws of the functions that count them.
+pub mod Counts
+pub mod Runs
+pub mod Recount
+pub mod Subtraction
