@@ -1,0 +1,304 @@
+/* boundary.c - what the reference pages cannot hold: null pointers, the length of the counts, names in the header,
+ * unaligned memory, and the promise that data comes back from a page with few enough symbols replaced. */
+#include "qmtd.h"
+
+#include <stdio.h>
+#include <stdlib.h>
+#include <string.h>
+
+static int failures;
+
+#define EXPECT(condition)                                                    \
+    do {                                                                     \
+        if (!(condition)) {                                                  \
+            printf("boundary.c:%d: not so: %s\n", __LINE__, #condition);     \
+            failures++;                                                      \
+        }                                                                    \
+    } while (0)
+
+/* Code A of document 01. */
+enum { K = 13, J = 4 };
+static const uint8_t table_a[QMTD_TABLE_LEN(J)] = {0, 0, 1, 0, 4, 0, 6, 0};
+
+/* All that a decode takes, in memory of exactly the right length; the calls below pass parts of it. */
+static uint8_t data[K], page[QMTD_PAGE_LEN(K)], thresholds[2];
+static uint8_t result[K], syndrome[K], difference[K], counts[QMTD_COUNTS_LEN];
+
+/* Data and page all 0, thresholds 0, 0; every lent answer full of 0xEE. */
+static void prepare(void)
+{
+    memset(data, 0, sizeof data);
+    memset(page, 0, sizeof page);
+    memset(thresholds, 0, sizeof thresholds);
+    memset(result, 0xEE, sizeof result);
+    memset(syndrome, 0xEE, sizeof syndrome);
+    memset(difference, 0xEE, sizeof difference);
+    memset(counts, 0xEE, sizeof counts);
+}
+
+static int all(const uint8_t *bytes, size_t len, uint8_t value)
+{
+    for (size_t i = 0; i < len; i++)
+        if (bytes[i] != value)
+            return 0;
+    return 1;
+}
+
+static int answers_untouched(void)
+{
+    return all(result, sizeof result, 0xEE) && all(syndrome, sizeof syndrome, 0xEE) &&
+           all(difference, sizeof difference, 0xEE) && all(counts, sizeof counts, 0xEE);
+}
+
+/* A decode of code A at q = 5 with the given table, page, thresholds and length of the counts. */
+static uint32_t decode(const uint8_t *table, size_t table_len, size_t page_len,
+                       const uint8_t *list, size_t list_len, size_t counts_len)
+{
+    return qmtd_decode(5, K, table, table_len, page, page_len, list, list_len, result, sizeof result,
+                       syndrome, sizeof syndrome, difference, sizeof difference, counts, counts_len);
+}
+
+static uint32_t number_at(const uint8_t *bytes)
+{
+    return bytes[0] | (uint32_t)bytes[1] << 8 | (uint32_t)bytes[2] << 16 | (uint32_t)bytes[3] << 24;
+}
+
+static void version(void)
+{
+    EXPECT(qmtd_version() == QMTD_VERSION_NUMBER);
+    EXPECT(QMTD_VERSION_NUMBER == QMTD_VERSION_MAJOR * 10000 + QMTD_VERSION_MINOR * 100 + QMTD_VERSION_PATCH);
+}
+
+static void null_with_length_0(void)
+{
+    const uint8_t *t = table_a;
+    const size_t n = sizeof table_a;
+    prepare();
+
+    EXPECT(qmtd_check_table(5, K, NULL, 0) == QMTD_BAD_J);
+
+    EXPECT(qmtd_encode(5, K, NULL, 0, data, K, page, 2 * K) == QMTD_BAD_J);
+    EXPECT(qmtd_encode(5, K, t, n, NULL, 0, page, 2 * K) == QMTD_BAD_LENGTH);
+    EXPECT(qmtd_encode(5, K, t, n, data, K, NULL, 0) == QMTD_BAD_LENGTH);
+    EXPECT(qmtd_encode(5, K, t, n, NULL, 0, NULL, 0) == QMTD_BAD_LENGTH);
+    EXPECT(qmtd_encode(5, 0, t, n, NULL, 0, NULL, 0) == QMTD_BAD_K);
+    EXPECT(qmtd_encode(0, 0, NULL, 0, NULL, 0, NULL, 0) == QMTD_BAD_Q);
+
+    EXPECT(qmtd_syndrome(5, K, NULL, 0, page, 2 * K, syndrome, K) == QMTD_BAD_J);
+    EXPECT(qmtd_syndrome(5, K, t, n, NULL, 0, syndrome, K) == QMTD_BAD_LENGTH);
+    EXPECT(qmtd_syndrome(5, K, t, n, page, 2 * K, NULL, 0) == QMTD_BAD_LENGTH);
+    EXPECT(qmtd_syndrome(5, K, t, n, NULL, 0, NULL, 0) == QMTD_BAD_LENGTH);
+    EXPECT(qmtd_syndrome(5, 0, t, n, NULL, 0, NULL, 0) == QMTD_BAD_K);
+    EXPECT(qmtd_syndrome(0, 0, NULL, 0, NULL, 0, NULL, 0) == QMTD_BAD_Q);
+
+    EXPECT(qmtd_decode(5, K, NULL, 0, page, 2 * K, thresholds, 2, result, K, syndrome, K, difference, K, counts, 16)
+           == QMTD_BAD_J);
+    EXPECT(qmtd_decode(5, K, t, n, NULL, 0, thresholds, 2, result, K, syndrome, K, difference, K, counts, 16)
+           == QMTD_BAD_LENGTH);
+    EXPECT(qmtd_decode(5, K, t, n, page, 2 * K, NULL, 0, result, K, syndrome, K, difference, K, counts, 16)
+           == QMTD_BAD_THRESHOLD_COUNT);
+    EXPECT(qmtd_decode(5, K, t, n, page, 2 * K, thresholds, 2, NULL, 0, syndrome, K, difference, K, counts, 16)
+           == QMTD_BAD_LENGTH);
+    EXPECT(qmtd_decode(5, K, t, n, page, 2 * K, thresholds, 2, result, K, NULL, 0, difference, K, counts, 16)
+           == QMTD_BAD_LENGTH);
+    EXPECT(qmtd_decode(5, K, t, n, page, 2 * K, thresholds, 2, result, K, syndrome, K, NULL, 0, counts, 16)
+           == QMTD_BAD_LENGTH);
+    EXPECT(qmtd_decode(5, K, t, n, page, 2 * K, thresholds, 2, result, K, syndrome, K, difference, K, NULL, 0)
+           == QMTD_BAD_LENGTH);
+    EXPECT(qmtd_decode(5, K, t, n, NULL, 0, NULL, 0, NULL, 0, NULL, 0, NULL, 0, NULL, 0) == QMTD_BAD_LENGTH);
+    EXPECT(qmtd_decode(5, 0, t, n, NULL, 0, NULL, 0, NULL, 0, NULL, 0, NULL, 0, NULL, 0) == QMTD_BAD_K);
+    EXPECT(qmtd_decode(0, 0, NULL, 0, NULL, 0, NULL, 0, NULL, 0, NULL, 0, NULL, 0, NULL, 0) == QMTD_BAD_Q);
+
+    EXPECT(answers_untouched() && all(page, sizeof page, 0));
+}
+
+/* The counts are a lent buffer like the others: 6, after 1 to 5 and before 7 to 9. */
+static void counts_length(void)
+{
+    static const uint8_t not_orthogonal[] = {0, 0, 1, 0, 2, 0};
+    static const size_t wrong[] = {0, 1, 4, 15, 17, 32};
+    uint8_t list[65] = {33};
+    for (size_t i = 0; i < sizeof wrong / sizeof wrong[0]; i++) {
+        size_t len = wrong[i];
+        uint8_t *block = malloc(len + 1);
+        if (block == NULL)
+            abort();
+        memset(block, 0xEE, len + 1);
+        prepare();
+        EXPECT(qmtd_decode(5, K, table_a, sizeof table_a, page, sizeof page, thresholds, 2, result, K, syndrome, K,
+                           difference, K, block, len) == QMTD_BAD_LENGTH);
+        EXPECT(all(block, len + 1, 0xEE));
+        free(block);
+    }
+    prepare();
+    EXPECT(decode(not_orthogonal, sizeof not_orthogonal, sizeof page, thresholds, 2, 15) == QMTD_NOT_SELF_ORTHOGONAL);
+    EXPECT(decode(table_a, 7, sizeof page, thresholds, 2, 15) == QMTD_BAD_J);
+    EXPECT(decode(table_a, sizeof table_a, sizeof page, list, 0, 15) == QMTD_BAD_LENGTH);
+    EXPECT(decode(table_a, sizeof table_a, sizeof page, list, 65, 15) == QMTD_BAD_LENGTH);
+    EXPECT(decode(table_a, sizeof table_a, sizeof page, list, 1, 15) == QMTD_BAD_LENGTH);
+    page[3] = 5;
+    EXPECT(decode(table_a, sizeof table_a, sizeof page, thresholds, 2, 15) == QMTD_BAD_LENGTH);
+    EXPECT(decode(table_a, sizeof table_a, sizeof page, thresholds, 2, 16) == QMTD_BAD_SYMBOL);
+    EXPECT(answers_untouched());
+}
+
+static void odd_table(void)
+{
+    static const uint8_t long_table[67] = {0};
+    prepare();
+    for (size_t len = 1; len < sizeof long_table; len += 2) {
+        EXPECT(qmtd_check_table(5, K, long_table, len) == QMTD_BAD_J);
+        EXPECT(decode(long_table, len, sizeof page, thresholds, 2, sizeof counts) == QMTD_BAD_J);
+    }
+    EXPECT(qmtd_check_table(QMTD_MIN_Q - 1, K, table_a, 7) == QMTD_BAD_Q);
+    EXPECT(qmtd_check_table(5, QMTD_MAX_K + 1, table_a, 7) == QMTD_BAD_K);
+    EXPECT(qmtd_encode(5, K, table_a, 7, data, 0, page, 0) == QMTD_BAD_J);
+    EXPECT(qmtd_syndrome(5, K, table_a, 7, page, 0, syndrome, 0) == QMTD_BAD_J);
+    EXPECT(answers_untouched());
+}
+
+/* Every name against the number of document 01 and a call that meets it; every limit on both sides. */
+static void names(void)
+{
+    static const uint8_t descending[] = {0, 0, 1, 0, 6, 0, 4, 0}, not_orthogonal[] = {0, 0, 1, 0, 2, 0};
+    static const uint8_t zeros[QMTD_TABLE_LEN(QMTD_MAX_J + 1)] = {0};
+    const size_t n = sizeof table_a;
+    uint8_t list[QMTD_MAX_THRESHOLDS + 1] = {0};
+    prepare();
+
+    EXPECT(QMTD_BAD_Q == 1 && qmtd_check_table(QMTD_MIN_Q - 1, K, table_a, n) == QMTD_BAD_Q);
+    EXPECT(qmtd_check_table(QMTD_MAX_Q + 1, K, table_a, n) == QMTD_BAD_Q);
+    EXPECT(QMTD_BAD_K == 2 && qmtd_check_table(5, QMTD_MIN_K - 1, table_a, n) == QMTD_BAD_K);
+    EXPECT(qmtd_check_table(5, QMTD_MAX_K + 1, table_a, n) == QMTD_BAD_K);
+    EXPECT(QMTD_BAD_J == 3 && qmtd_check_table(5, K, zeros, QMTD_TABLE_LEN(QMTD_MIN_J - 1)) == QMTD_BAD_J);
+    EXPECT(qmtd_check_table(5, K, zeros, QMTD_TABLE_LEN(QMTD_MAX_J + 1)) == QMTD_BAD_J);
+    EXPECT(qmtd_check_table(5, K, zeros, QMTD_TABLE_LEN(QMTD_MAX_J)) == QMTD_BAD_POSITION);
+    EXPECT(QMTD_BAD_POSITION == 4 && qmtd_check_table(5, K, descending, sizeof descending) == QMTD_BAD_POSITION);
+    EXPECT(QMTD_NOT_SELF_ORTHOGONAL == 5 &&
+           qmtd_check_table(5, K, not_orthogonal, sizeof not_orthogonal) == QMTD_NOT_SELF_ORTHOGONAL);
+    EXPECT(QMTD_BAD_LENGTH == 6 && decode(table_a, n, sizeof page - 1, list, 1, sizeof counts) == QMTD_BAD_LENGTH);
+    page[2 * K - 1] = 5;
+    EXPECT(QMTD_BAD_SYMBOL == 7 && decode(table_a, n, sizeof page, list, 1, sizeof counts) == QMTD_BAD_SYMBOL);
+    page[2 * K - 1] = 0;
+    EXPECT(QMTD_BAD_THRESHOLD_COUNT == 8 && decode(table_a, n, sizeof page, list, QMTD_MIN_THRESHOLDS - 1,
+                                                   sizeof counts) == QMTD_BAD_THRESHOLD_COUNT);
+    EXPECT(decode(table_a, n, sizeof page, list, QMTD_MAX_THRESHOLDS + 1, sizeof counts) == QMTD_BAD_THRESHOLD_COUNT);
+    list[0] = QMTD_MAX_THRESHOLD + 1;
+    EXPECT(QMTD_BAD_THRESHOLD == 9 && decode(table_a, n, sizeof page, list, 1, sizeof counts) == QMTD_BAD_THRESHOLD);
+    EXPECT(answers_untouched());
+
+    EXPECT(QMTD_OK == 0 && qmtd_check_table(QMTD_MIN_Q, K, table_a, n) == QMTD_OK);
+    EXPECT(qmtd_check_table(QMTD_MAX_Q, K, table_a, n) == QMTD_OK);
+    EXPECT(qmtd_check_table(5, QMTD_MIN_K, zeros, QMTD_TABLE_LEN(QMTD_MIN_J)) == QMTD_OK);
+    EXPECT(qmtd_check_table(5, QMTD_MAX_K, table_a, n) == QMTD_OK);
+    list[0] = QMTD_MAX_THRESHOLD;
+    EXPECT(decode(table_a, n, sizeof page, list, QMTD_MIN_THRESHOLDS, sizeof counts) == QMTD_OK);
+    EXPECT(decode(table_a, n, sizeof page, list, QMTD_MAX_THRESHOLDS, sizeof counts) == QMTD_OK);
+}
+
+/* Case 9 of document 01 with every piece at every distance from an aligned address. */
+static void unaligned(void)
+{
+    static const uint8_t case_9_counts[QMTD_COUNTS_LEN] = {2, 0, 0, 0, 2, 0, 0, 0, 7, 0, 0, 0, 2, 0, 0, 0};
+    enum { ROOM = 64 };
+    static union {
+        uint64_t alignment;
+        uint8_t bytes[7][ROOM];
+    } memory;
+    for (size_t shift = 0; shift < 16; shift++) {
+        uint8_t *at[7];
+        memset(memory.bytes, 0, sizeof memory.bytes);
+        for (size_t i = 0; i < 7; i++)
+            at[i] = memory.bytes[i] + (shift + i) % 16;
+        memcpy(at[0], table_a, sizeof table_a);
+        at[1][0] = 7;
+        at[1][1] = 3;
+        EXPECT(qmtd_decode(256, K, at[0], sizeof table_a, at[1], 2 * K, at[2], 2, at[3], K, at[4], K, at[5], K,
+                           at[6], QMTD_COUNTS_LEN) == QMTD_OK);
+        EXPECT(all(at[3], K, 0) && all(at[4], K, 0));
+        EXPECT(at[5][0] == 249 && at[5][1] == 253 && all(at[5] + 2, K - 2, 0));
+        EXPECT(memcmp(at[6], case_9_counts, sizeof case_9_counts) == 0);
+
+        EXPECT(qmtd_syndrome(256, K, at[0], sizeof table_a, at[1], 2 * K, at[4], K) == QMTD_OK);
+        EXPECT(at[4][0] == 7 && at[4][1] == 10 && at[4][2] == 3 && at[4][5] == 3);
+        EXPECT(qmtd_encode(256, K, at[0], sizeof table_a, at[3], K, at[1], 2 * K) == QMTD_OK);
+        EXPECT(all(at[1], 2 * K, 0));
+    }
+}
+
+/* A small generator of our own, so that a failure can be had again. */
+static uint32_t below(uint32_t n)
+{
+    static uint64_t state = 1;
+    state = state * 6364136223846793005u + 1442695040888963407u;
+    return (uint32_t)(state >> 33) % n;
+}
+
+/* At most t of a page's symbols replaced, 2 * t + (first threshold) <= J: decode gives the data back, whatever the
+ * later thresholds. The distance at the end is that of the page encoded from the result. */
+static void recovery_of(uint32_t q, uint32_t k, const uint8_t *table, uint32_t j, int rounds)
+{
+    static uint8_t sent[QMTD_MAX_K], encoded[2 * QMTD_MAX_K], received[2 * QMTD_MAX_K], again[2 * QMTD_MAX_K];
+    static uint8_t back[QMTD_MAX_K], s[QMTD_MAX_K], d[QMTD_MAX_K];
+    while (rounds-- > 0) {
+        for (uint32_t i = 0; i < k; i++)
+            sent[i] = (uint8_t)below(q);
+        EXPECT(qmtd_encode(q, k, table, 2 * j, sent, k, encoded, 2 * k) == QMTD_OK);
+
+        uint8_t list[4];
+        list[0] = (uint8_t)below(j + 1);
+        for (size_t i = 1; i < sizeof list; i++)
+            list[i] = (uint8_t)below(QMTD_MAX_THRESHOLD + 1);
+        uint32_t replaced = 0;
+        memcpy(received, encoded, 2 * k);
+        for (uint32_t t = (j - list[0]) / 2; t > 0; t--)
+            received[below(2 * k)] = (uint8_t)below(q);
+        for (uint32_t i = 0; i < 2 * k; i++)
+            replaced += received[i] != encoded[i];
+
+        uint8_t c[QMTD_COUNTS_LEN];
+        EXPECT(qmtd_decode(q, k, table, 2 * j, received, 2 * k, list, 1 + below(sizeof list), back, k, s, k, d, k,
+                           c, sizeof c) == QMTD_OK);
+        EXPECT(memcmp(back, sent, k) == 0);
+        EXPECT(number_at(c + 12) == replaced);
+
+        uint32_t nonzero = 0;
+        EXPECT(qmtd_encode(q, k, table, 2 * j, back, k, again, 2 * k) == QMTD_OK);
+        for (uint32_t i = 0; i < k; i++) {
+            nonzero += (s[i] != 0) + (d[i] != 0);
+            EXPECT((received[i] + d[i]) % q == back[i]);
+            EXPECT((received[k + i] + s[i]) % q == again[k + i]);
+        }
+        EXPECT(nonzero == replaced);
+    }
+}
+
+static void recovery(void)
+{
+    static const uint8_t k_7[] = {0, 0, 1, 0, 3, 0};
+    static const uint8_t k_57[] = {0, 0, 1, 0, 3, 0, 13, 0, 32, 0, 36, 0, 43, 0, 52, 0};
+    static const uint8_t k_4096[] = {0, 0, 1, 0, 6, 0, 10, 0, 23, 0, 26, 0, 34, 0, 41, 0, 53, 0, 55, 0};
+    recovery_of(3, 7, k_7, 3, 50);
+    recovery_of(256, 7, k_7, 3, 50);
+    recovery_of(3, K, table_a, J, 100);
+    recovery_of(10, K, table_a, J, 100);
+    recovery_of(256, K, table_a, J, 100);
+    recovery_of(5, 57, k_57, 8, 100);
+    recovery_of(251, 57, k_57, 8, 100);
+    recovery_of(129, 4096, k_4096, 10, 3);
+    recovery_of(256, 4096, k_4096, 10, 3);
+}
+
+int main(void)
+{
+    setvbuf(stdout, NULL, _IONBF, 0); /* what was found is shown even if the archive crashes the program */
+    version();
+    null_with_length_0();
+    counts_length();
+    odd_table();
+    names();
+    unaligned();
+    recovery();
+    printf("%d failures\n", failures);
+    return failures == 0 ? 0 : 1;
+}

@@ -1,0 +1,73 @@
+/* freestanding.c - all the calls in a program without a C library (x86-64 Linux). Exits 0, or with the number of the
+ * step that went wrong. The one thing that the archive may ask for from outside, memset, is here. */
+#include "qmtd.h"
+
+/* volatile, or the compiler might make the loop a call to memset. */
+void *memset(void *to, int value, size_t len)
+{
+    volatile unsigned char *bytes = to;
+    for (size_t i = 0; i < len; i++)
+        bytes[i] = (unsigned char)value;
+    return to;
+}
+
+/* Leaves with what run() returns. */
+__asm__(".globl _start\n"
+        "_start:\n"
+        "    xor %ebp, %ebp\n"
+        "    call run\n"
+        "    mov %eax, %edi\n"
+        "    mov $60, %eax\n"
+        "    syscall\n");
+
+enum { K = 13 };
+
+/* Code A and cases 5 and 9 of document 01. */
+static const uint8_t table[] = {0, 0, 1, 0, 4, 0, 6, 0};
+static const uint8_t data[K] = {[0] = 10, [12] = 250};
+static const uint8_t code_word[2 * K] = {
+    [0] = 10, [12] = 250,
+    [K + 0] = 4, [K + 1] = 10, [K + 4] = 10, [K + 6] = 10, [K + 3] = 250, [K + 5] = 250, [K + 12] = 250};
+static const uint8_t received[2 * K] = {7, 3};
+static const uint8_t thresholds[] = {0, 0};
+static const uint8_t expected_difference[K] = {249, 253};
+static const uint8_t expected_counts[QMTD_COUNTS_LEN] = {[0] = 2, [4] = 2, [8] = 7, [12] = 2};
+
+static uint8_t page[2 * K], result[K], syndrome[K], difference[K], counts[QMTD_COUNTS_LEN];
+
+static int same(const uint8_t *a, const uint8_t *b, size_t len)
+{
+    for (size_t i = 0; i < len; i++)
+        if (a[i] != b[i])
+            return 0;
+    return 1;
+}
+
+int run(void);
+
+int run(void)
+{
+    static const uint8_t zeros[K];
+    if (qmtd_version() != QMTD_VERSION_NUMBER)
+        return 1;
+    if (qmtd_check_table(256, K, table, sizeof table) != QMTD_OK ||
+        qmtd_check_table(256, 12, table, sizeof table) != QMTD_NOT_SELF_ORTHOGONAL)
+        return 2;
+    if (qmtd_encode(256, K, table, sizeof table, data, K, page, sizeof page) != QMTD_OK ||
+        !same(page, code_word, sizeof page))
+        return 3;
+    if (qmtd_syndrome(256, K, table, sizeof table, page, sizeof page, syndrome, K) != QMTD_OK ||
+        !same(syndrome, zeros, K))
+        return 4;
+    if (qmtd_decode(256, K, table, sizeof table, received, sizeof received, thresholds, sizeof thresholds, result, K,
+                    syndrome, K, difference, K, counts, sizeof counts) != QMTD_OK)
+        return 5;
+    if (!same(result, zeros, K) || !same(syndrome, zeros, K) || !same(difference, expected_difference, K) ||
+        !same(counts, expected_counts, sizeof counts))
+        return 6;
+    if (qmtd_decode(257, K, table, sizeof table, received, sizeof received, thresholds, sizeof thresholds, result, K,
+                    syndrome, K, difference, K, counts, sizeof counts) != QMTD_BAD_Q ||
+        !same(counts, expected_counts, sizeof counts))
+        return 7;
+    return 0;
+}

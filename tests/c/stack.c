@@ -1,0 +1,81 @@
+/* stack.c - the stack that the calls use, against the 8 KiB that the header tells a caller to allow. Each call runs on
+ * a stack of its own, filled with a pattern before; what no longer holds the pattern was used. */
+#define _DEFAULT_SOURCE
+#include "qmtd.h"
+
+#include <stdio.h>
+#include <string.h>
+#include <ucontext.h>
+
+enum { K = QMTD_MAX_K, J = 10, STACK = 65536, FILL = 0xA7, ALLOWED = 8192 };
+
+/* A Golomb ruler of 10 marks. */
+static const uint8_t table[QMTD_TABLE_LEN(J)] = {0, 0, 1, 0, 6, 0, 10, 0, 23, 0, 26, 0, 34, 0, 41, 0, 53, 0, 55, 0};
+static const uint8_t thresholds[] = {2, 1, 0, 0};
+
+static uint8_t data[K], page[QMTD_PAGE_LEN(K)], result[K], syndrome[K], difference[K], counts[QMTD_COUNTS_LEN];
+static uint8_t stack[STACK];
+static ucontext_t caller, callee;
+static uint32_t number;
+
+static void check_table(void)
+{
+    number = qmtd_check_table(251, K, table, sizeof table);
+}
+
+static void encode(void)
+{
+    number = qmtd_encode(251, K, table, sizeof table, data, K, page, sizeof page);
+}
+
+static void work_out_syndrome(void)
+{
+    number = qmtd_syndrome(251, K, table, sizeof table, page, sizeof page, syndrome, K);
+}
+
+static void decode(void)
+{
+    number = qmtd_decode(251, K, table, sizeof table, page, sizeof page, thresholds, sizeof thresholds, result, K,
+                         syndrome, K, difference, K, counts, sizeof counts);
+}
+
+static void idle(void)
+{
+    number = QMTD_OK;
+}
+
+static size_t used_by(void (*call)(void))
+{
+    memset(stack, FILL, sizeof stack);
+    getcontext(&callee);
+    callee.uc_stack.ss_sp = stack;
+    callee.uc_stack.ss_size = sizeof stack;
+    callee.uc_link = &caller;
+    makecontext(&callee, call, 0);
+    swapcontext(&caller, &callee);
+    size_t free_bytes = 0;
+    while (free_bytes < sizeof stack && stack[free_bytes] == FILL)
+        free_bytes++;
+    return sizeof stack - free_bytes;
+}
+
+int main(void)
+{
+    static const struct {
+        const char *name;
+        void (*call)(void);
+    } calls[] = {{"check_table", check_table}, {"encode", encode}, {"syndrome", work_out_syndrome}, {"decode", decode}};
+    int wrong = 0;
+    size_t around = used_by(idle);
+    for (size_t i = 0; i < K; i++)
+        data[i] = (uint8_t)(i % 251);
+    for (size_t i = 0; i < sizeof calls / sizeof calls[0]; i++) {
+        size_t used = used_by(calls[i].call) - around;
+        printf("%-12s %zu bytes of stack\n", calls[i].name, used);
+        wrong |= number != QMTD_OK || used > ALLOWED;
+        if (calls[i].call == encode)
+            for (size_t at = 0; at < sizeof page; at += 100)
+                page[at] = (uint8_t)((page[at] + 1) % 251);
+    }
+    return wrong;
+}
