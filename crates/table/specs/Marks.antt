@@ -4,10 +4,10 @@ use mathlib.Core.Logic.{_≢_, _↔_}
 use mathlib.Core.Bool.{Bool, true, false}
 use mathlib.Core.List.{List, [], _∷_, _++_}
 use Prim.Native.Nat.{ℕ, _+_, _≤_, _<_}
-use native.Mathlib.Decide.{ℕ-discrete, decLt}
+use native.Mathlib.Decide.{ℕ-discrete}
 use native.Mathlib.Omega.{arith}
 use lib.Dec.{T, eqb}
-use lib.ListN.{length, getD, set, replicate, length-set, length-replicate, getD-replicate, List·getD-eq-default}
+use lib.ListN.{length, getD, set, length-set}
 use lib.Seq.{getD-set-same, getD-set-other}
 use Rattle.model.specs.Symbols.{choose, count}
 use Rattle.theory.specs.Counting.{eqb-yes, eqb-no, same-yes, same-no, count-nil, count-cons, All}
@@ -92,7 +92,3 @@ fresh-once (v ∷ vs) seen a le = elim (ℕ-discrete (getD seen v 0) 0) as (λ o
       rw (eqb-yes (getD seen v 0) 0 z) (λ e w. omega (arith, more w, rest .0 e w), λ f. rest .1 (λ w. omega (arith, more w, f w)))
   | no n ↦ rw (eqb-no (getD seen v 0) 0 n) (λ e. absurd (true-false e), λ f. absurd (omega (arith, f v, count-cons v v vs, same-yes v v refl)))
 ]
-
--- flags that are all 0
-pub cleared : (n w : ℕ) → getD {A = ℕ} (replicate n 0) w 0 ≡ 0
-cleared n w = elim (decLt w n) [ yes h ↦ getD-replicate n w 0 0 h | no h ↦ List·getD-eq-default (replicate n 0) 0 (rw length-replicate (omega arith)) ]

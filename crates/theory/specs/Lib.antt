@@ -4,6 +4,7 @@ pub mod Counting
 pub mod Voting
 pub mod Steps
 pub mod Distance
+pub mod Parts
 pub mod Falling
 pub mod Recovery
 pub mod Page

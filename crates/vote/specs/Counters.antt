@@ -3,12 +3,13 @@ use mathlib.Core.Path.{_≡_, refl}
 use mathlib.Core.Logic.{_≢_}
 use mathlib.Core.List.{List}
 use Prim.Native.Nat.{ℕ, _+_, _≤_, _<_}
-use native.Mathlib.Decide.{ℕ-discrete, decLt}
+use native.Mathlib.Decide.{ℕ-discrete}
 use native.Mathlib.Omega.{arith}
-use lib.ListN.{length, getD, set, take, replicate, length-take, length-set, length-replicate, getD-replicate, List·getD-eq-default}
+use lib.ListN.{length, getD, set, take, replicate, length-take, length-set, length-replicate}
 use lib.Seq.{getD-set-same, getD-set-other}
 use Rattle.model.specs.Symbols.{count}
 use Rattle.theory.specs.Counting.{same-yes, same-no, count-misses}
+use Rattle.theory.specs.Parts.{cleared}
 use Rattle.theory.specs.Turns.{count-none, count-turn}
 
 -- the counters of the first i estimates, of which no value but 0 stands more than `bound` times
@@ -16,9 +17,6 @@ pub record Counted (bound : ℕ) (es : List ℕ) (i : ℕ) (counters : List ℕ)
   pub sized : length counters ≡ 256
   pub counts : (v : ℕ) → getD counters v 0 ≡ count v (take i es)
   pub bounded : (v : ℕ) → v ≢ 0 → count v (take i es) ≤ bound
-
-cleared : (n v : ℕ) → getD {A = ℕ} (replicate n 0) v 0 ≡ 0
-cleared n v = elim (decLt v n) [ yes h ↦ getD-replicate n v 0 0 h | no h ↦ List·getD-eq-default (replicate n 0) 0 (rw length-replicate (omega arith)) ]
 
 module _ (bound : ℕ) (es : List ℕ) where
   pub counted-none : Counted bound es 0 (replicate 256 0)

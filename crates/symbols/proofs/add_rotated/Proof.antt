@@ -3,7 +3,8 @@ use mathlib.Core.Path.{sym, _∙_}
 use Prim.Native.Nat.{ℕ, _-_}
 use native.Mathlib.Omega.{arith}
 use lib.ListN.{length, length-take, length-drop}
-use Rattle.symbols.specs.Rotation.{below-part, lead-length, lead-below, runs}
+use Rattle.theory.specs.Parts.{below-part, lead-length, lead-below}
+use Rattle.symbols.specs.Rotation.{runs}
 use borrow.Author.Needs.{needs}
 use Rattle.symbols.proofs.add_rotated.Statement.{statement}
 use Rattle.symbols.proofs.add_rotated.Tie as tie
@@ -40,7 +41,7 @@ slice-relend-prefix-add-into c = search needs
 slice-aggregate-add-into-2 : tie.Need-slice-aggregate-add-into-2
 slice-aggregate-add-into-2 c =
     let a = c .before .before .before .before .before .before .before .before .args in
-    sym (lead-length (a .q) (a .p) (a .acc .now) (a .src .now) (omega arith) (omega arith) (c .before .before .before .add-into .last .1 .0))
+    sym (lead-length (a .p) (a .acc .now) (omega arith) (c .before .before .before .add-into .last .1 .0))
 
 sub-add-into-2 : tie.Need-sub-add-into-2
 sub-add-into-2 c = search needs
@@ -59,8 +60,8 @@ add-into-requires-2 c κs =
     let r = c .before .before .before .before .add-into .last .1 .0 in (
       omega arith,
       omega arith,
-      lead-length (a .q) (a .p) (a .acc .now) (a .src .now) (omega arith) (omega arith) r ∙ simp (length-take, length-drop) (omega arith),
-      lead-below (a .q) (a .p) (a .acc .now) (a .src .now) (omega arith) (omega arith) (omega arith) (b .pre .4) r,
+      lead-length (a .p) (a .acc .now) (omega arith) r ∙ simp (length-take, length-drop) (omega arith),
+      lead-below (a .p) (a .acc .now) (omega arith) (a .q) (omega arith) (b .pre .4) r,
       below-part (a .q) (omega arith) rest (length (a .src .now) - rest) (a .src .now) (b .pre .5),
     )
 

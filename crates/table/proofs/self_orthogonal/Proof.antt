@@ -1,6 +1,6 @@
 -- `self_orthogonal` tests the differences with cleared flags, 33, 513 or 2049 of them.
 use native.Mathlib.Omega.{arith}
-use Rattle.table.specs.Marks.{cleared}
+use Rattle.theory.specs.Parts.{cleared}
 use Rattle.table.specs.Table.{orthogonal-told}
 use borrow.Author.Needs.{needs}
 use Rattle.table.proofs.self_orthogonal.Statement.{statement}

@@ -3,8 +3,8 @@ use mathlib.Core.Path.{sym, _∙_}
 use Prim.Native.Nat.{ℕ, _-_}
 use native.Mathlib.Omega.{arith}
 use lib.ListN.{length, length-take, length-drop}
-use Rattle.symbols.specs.Rotation.{below-part}
-use Rattle.zeros.specs.Runs.{lead-length, lead-below, runs}
+use Rattle.theory.specs.Parts.{below-part, lead-length, lead-below}
+use Rattle.zeros.specs.Runs.{runs}
 use borrow.Author.Needs.{needs}
 use Rattle.zeros.proofs.add_zeros_from.Statement.{statement}
 use Rattle.zeros.proofs.add_zeros_from.Tie as tie
