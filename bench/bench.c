@@ -1,0 +1,365 @@
+/* bench.c - measures the library beside the same calls in C, in one run:  bench [--quick] [--ns] [--rows FILTER]
+ *
+ * Every page is first put through all implementations, and all they return and write is compared. Then, row by row and
+ * round by round, each implementation runs in turn; its fastest round counts.
+ *
+ *   --quick         fewer and shorter rounds
+ *   --ns            nanoseconds a data byte for all, instead of ratios
+ *   --rows FILTER   only the rows with FILTER in their name
+ *   --count         makes each call of the rows to count once, for bench/count */
+#define _POSIX_C_SOURCE 199309L
+#include "qmtd.h"
+
+#include <stdio.h>
+#include <stdlib.h>
+#include <string.h>
+#include <time.h>
+
+/* ---- The implementations ---- */
+
+#define DECLARE(prefix)                                                                                                \
+    uint32_t prefix##check_table(uint32_t, uint32_t, const uint8_t *, size_t);                                         \
+    uint32_t prefix##encode(uint32_t, uint32_t, const uint8_t *, size_t, const uint8_t *, size_t, uint8_t *, size_t);  \
+    uint32_t prefix##syndrome(uint32_t, uint32_t, const uint8_t *, size_t, const uint8_t *, size_t, uint8_t *,         \
+                              size_t);                                                                                 \
+    uint32_t prefix##decode(uint32_t, uint32_t, const uint8_t *, size_t, const uint8_t *, size_t, const uint8_t *,     \
+                            size_t, uint8_t *, size_t, uint8_t *, size_t, uint8_t *, size_t, uint8_t *, size_t);
+
+#define CALLS(title, prefix) {title, prefix##check_table, prefix##encode, prefix##syndrome, prefix##decode}
+
+DECLARE(plain_gcc_)
+DECLARE(fast_gcc_)
+#ifdef WITH_CLANG
+DECLARE(plain_clang_)
+DECLARE(fast_clang_)
+#endif
+
+struct implementation {
+    const char *name;
+    uint32_t (*check_table)(uint32_t, uint32_t, const uint8_t *, size_t);
+    uint32_t (*encode)(uint32_t, uint32_t, const uint8_t *, size_t, const uint8_t *, size_t, uint8_t *, size_t);
+    uint32_t (*syndrome)(uint32_t, uint32_t, const uint8_t *, size_t, const uint8_t *, size_t, uint8_t *, size_t);
+    uint32_t (*decode)(uint32_t, uint32_t, const uint8_t *, size_t, const uint8_t *, size_t, const uint8_t *, size_t,
+                       uint8_t *, size_t, uint8_t *, size_t, uint8_t *, size_t, uint8_t *, size_t);
+};
+
+/* The library comes first: the others are compared with it. */
+static const struct implementation implementations[] = {
+    CALLS("library", qmtd_),
+    CALLS("plain gcc", plain_gcc_),
+#ifdef WITH_CLANG
+    CALLS("plain clang", plain_clang_),
+#endif
+    CALLS("fast gcc", fast_gcc_),
+#ifdef WITH_CLANG
+    CALLS("fast clang", fast_clang_),
+#endif
+};
+enum { IMPLEMENTATIONS = sizeof implementations / sizeof implementations[0] };
+
+/* ---- Codes, pages and rows ---- */
+
+struct code {
+    uint32_t k, positions, spread;
+};
+
+/* The first is the example of document 01; spread is coprime to k. */
+static const struct code codes[] = {{13, 4, 1}, {1021, 12, 388}, {4096, 10, 1531}, {4096, 32, 1531}};
+enum { CODES = sizeof codes / sizeof codes[0] };
+
+static const uint32_t alphabets[] = {256, 251};
+enum { ALPHABETS = sizeof alphabets / sizeof alphabets[0] };
+
+static const uint32_t damages[] = {0, 1, 5, 10}; /* symbols replaced, in percent */
+enum { DAMAGES = sizeof damages / sizeof damages[0] };
+
+enum call { CHECK_TABLE, ENCODE, SYNDROME, DECODE };
+static const char *const call_names[] = {"check_table", "encode", "syndrome", "decode"};
+
+struct row {
+    char name[80];
+    enum call call;
+    uint32_t q, k, positions;
+    uint8_t table[2 * QMTD_MAX_J], thresholds[4], data[QMTD_MAX_K], page[2 * QMTD_MAX_K];
+};
+
+/* What a call returns and writes. */
+struct answer {
+    uint32_t number;
+    uint8_t page[2 * QMTD_MAX_K], result[QMTD_MAX_K], syndrome[QMTD_MAX_K], difference[QMTD_MAX_K];
+    uint8_t counts[QMTD_COUNTS_LEN];
+};
+
+/* A generator of numbers that are the same in every run (xorshift). */
+static uint64_t generator;
+
+static uint32_t draw(uint32_t below)
+{
+    generator ^= generator << 13;
+    generator ^= generator >> 7;
+    generator ^= generator << 17;
+    return (uint32_t)((generator >> 32) * below >> 32);
+}
+
+/* Makes a table greedily: each position is the first that gives no difference twice. All are then multiplied by the
+ * spread, which keeps the differences apart, so that the positions lie all over the ring. */
+static void make_table(const struct code *code, uint8_t *table)
+{
+    uint32_t k = code->k, n = 0, positions[QMTD_MAX_J];
+    uint8_t taken[QMTD_MAX_K] = {0}, used[QMTD_MAX_K] = {0};
+    for (uint32_t p = 0; n < code->positions && p < k; p++) {
+        uint8_t trial[QMTD_MAX_K];
+        memcpy(trial, taken, k);
+        uint32_t a = 0;
+        for (; a < n; a++) {
+            uint32_t d = p - positions[a];
+            if (trial[d]++ || trial[k - d]++)
+                break;
+        }
+        if (a < n)
+            continue;
+        memcpy(taken, trial, k);
+        positions[n++] = p;
+    }
+    if (n < code->positions) {
+        fprintf(stderr, "no table with k = %u and %u positions\n", (unsigned)k, (unsigned)code->positions);
+        exit(1);
+    }
+    for (uint32_t a = 0; a < n; a++)
+        used[positions[a] * code->spread % k] = 1;
+    for (uint32_t p = 0; p < k; p++)
+        if (used[p]) {
+            *table++ = (uint8_t)p;
+            *table++ = (uint8_t)(p >> 8);
+        }
+}
+
+/* Makes the row's page: data drawn, encoded by the library, then the damage, rounded up to whole symbols. */
+static void make_page(struct row *row, uint32_t damage)
+{
+    uint32_t q = row->q, k = row->k, n = 2 * k;
+    uint8_t replaced[2 * QMTD_MAX_K] = {0};
+    generator = 0x9E3779B97F4A7C15u;
+    for (uint32_t i = 0; i < k; i++)
+        row->data[i] = (uint8_t)draw(q);
+    if (qmtd_check_table(q, k, row->table, 2 * row->positions) != QMTD_OK ||
+        qmtd_encode(q, k, row->table, 2 * row->positions, row->data, k, row->page, n) != QMTD_OK) {
+        fprintf(stderr, "%s: the library refuses the table\n", row->name);
+        exit(1);
+    }
+    for (uint32_t left = (n * damage + 99) / 100; left > 0;) {
+        uint32_t i = draw(n);
+        if (replaced[i])
+            continue;
+        replaced[i] = 1;
+        row->page[i] = (uint8_t)((row->page[i] + 1 + draw(q - 1)) % q);
+        left--;
+    }
+}
+
+static void make_row(struct row *row, const struct code *code, uint32_t q, enum call call, uint32_t damage)
+{
+    char kind[16] = "";
+    uint32_t j = code->positions;
+    *row = (struct row){.call = call, .q = q, .k = code->k, .positions = j};
+    if (call == DECODE && damage == 0)
+        strcpy(kind, " clean");
+    else if (call == DECODE)
+        snprintf(kind, sizeof kind, " %u%%", (unsigned)damage);
+    snprintf(row->name, sizeof row->name, "k=%u J=%u q=%u %s%s", (unsigned)code->k, (unsigned)j, (unsigned)q,
+             call_names[call], kind);
+    make_table(code, row->table);
+    row->thresholds[0] = (uint8_t)(j / 4);
+    row->thresholds[1] = (uint8_t)(j / 8);
+    row->thresholds[2] = 1;
+    row->thresholds[3] = 0;
+    make_page(row, damage);
+}
+
+/* ---- One call ---- */
+
+static void make_call(const struct implementation *by, const struct row *row, struct answer *answer)
+{
+    uint32_t q = row->q, k = row->k;
+    const uint8_t *table = row->table;
+    size_t table_len = 2 * row->positions;
+    switch (row->call) {
+    case CHECK_TABLE:
+        answer->number = by->check_table(q, k, table, table_len);
+        break;
+    case ENCODE:
+        answer->number = by->encode(q, k, table, table_len, row->data, k, answer->page, 2 * k);
+        break;
+    case SYNDROME:
+        answer->number = by->syndrome(q, k, table, table_len, row->page, 2 * k, answer->syndrome, k);
+        break;
+    case DECODE:
+        answer->number = by->decode(q, k, table, table_len, row->page, 2 * k, row->thresholds, sizeof row->thresholds,
+                                    answer->result, k, answer->syndrome, k, answer->difference, k, answer->counts,
+                                    sizeof answer->counts);
+        break;
+    }
+}
+
+/* bench/count collects the instructions inside this function; the counter keeps the call from becoming a jump. */
+__attribute__((noinline)) void counted_call(const struct implementation *, const struct row *, struct answer *);
+static volatile unsigned counted;
+
+void counted_call(const struct implementation *by, const struct row *row, struct answer *answer)
+{
+    make_call(by, row, answer);
+    counted++;
+}
+
+/* Puts the row through all implementations; leaves the library's answer. Do all agree? */
+static int agree(const struct row *row, struct answer *first)
+{
+    for (int i = 0; i < IMPLEMENTATIONS; i++) {
+        static struct answer other;
+        struct answer *answer = i == 0 ? first : &other;
+        memset(answer, 0xA5, sizeof *answer);
+        make_call(&implementations[i], row, answer);
+        if (answer->number != QMTD_OK || memcmp(answer, first, sizeof *answer) != 0) {
+            fprintf(stderr, "%s: %s returned %u%s\n", row->name, implementations[i].name, (unsigned)answer->number,
+                    answer->number == first->number ? " and wrote other bytes than the library" : "");
+            return 0;
+        }
+    }
+    return 1;
+}
+
+static uint32_t number_at(const uint8_t *bytes)
+{
+    return bytes[0] | (uint32_t)bytes[1] << 8 | (uint32_t)bytes[2] << 16 | (uint32_t)bytes[3] << 24;
+}
+
+/* ---- Measuring ---- */
+
+static double now(void)
+{
+    struct timespec t;
+    clock_gettime(CLOCK_MONOTONIC, &t);
+    return (double)t.tv_sec * 1e9 + (double)t.tv_nsec;
+}
+
+static double time_calls(const struct implementation *by, const struct row *row, unsigned repetitions)
+{
+    static struct answer answer;
+    double start = now();
+    for (unsigned r = 0; r < repetitions; r++)
+        make_call(by, row, &answer);
+    return (now() - start) / repetitions;
+}
+
+/* The fastest round of each implementation, in nanoseconds a call. */
+static void measure(const struct row *row, int rounds, double batch, double *best)
+{
+    unsigned repetitions[IMPLEMENTATIONS];
+    for (int i = 0; i < IMPLEMENTATIONS; i++) {
+        time_calls(&implementations[i], row, 1);
+        best[i] = time_calls(&implementations[i], row, 1);
+        double wanted = batch / (best[i] > 20 ? best[i] : 20);
+        repetitions[i] = wanted < 1 ? 1 : (unsigned)wanted;
+    }
+    for (int round = 0; round < rounds; round++)
+        for (int i = 0; i < IMPLEMENTATIONS; i++) {
+            double t = time_calls(&implementations[i], row, repetitions[i]);
+            if (t < best[i])
+                best[i] = t;
+        }
+}
+
+/* ---- The table ---- */
+
+static void print_head(int ns)
+{
+    printf("decode: thresholds J/4, J/8, 1, 0\n");
+    printf("%-32s %8s ", "", "library");
+    for (int i = 1; i < IMPLEMENTATIONS; i++)
+        printf(" %11s", implementations[i].name);
+    printf("   passes changes\n%-32s %8s  %s\n", "", "ns/byte",
+           ns ? "ns/byte" : "library speed / C speed; above 1 the library is faster");
+}
+
+static void print_row(const struct row *row, const double *best, const struct answer *answer, int ns)
+{
+    printf("%-32s %8.3f ", row->name, best[0] / row->k);
+    for (int i = 1; i < IMPLEMENTATIONS; i++)
+        if (ns)
+            printf(" %11.3f", best[i] / row->k);
+        else
+            printf(" %11.2f", best[i] / best[0]);
+    if (row->call == DECODE)
+        printf("   %6u %7u", (unsigned)number_at(answer->counts), (unsigned)number_at(answer->counts + 4));
+    printf("\n");
+    fflush(stdout);
+}
+
+/* The rows that bench/count counts. */
+static int to_count(const struct row *row, uint32_t damage)
+{
+    return (row->k == 1021 || row->positions == 32) &&
+           (row->call == ENCODE || (row->call == DECODE && (damage == 0 || damage == 5)));
+}
+
+static void count_row(const struct row *row)
+{
+    static struct answer answer;
+    for (int i = 0; i < IMPLEMENTATIONS; i++)
+        if (strncmp(implementations[i].name, "plain", 5) != 0) {
+            counted_call(&implementations[i], row, &answer);
+            printf("%u\t%s\t%s\n", (unsigned)row->k, implementations[i].name, row->name);
+        }
+}
+
+int main(int argc, char **argv)
+{
+    const char *filter = "";
+    int quick = 0, ns = 0, count = 0;
+    for (int i = 1; i < argc; i++)
+        if (strcmp(argv[i], "--quick") == 0) {
+            quick = 1;
+        } else if (strcmp(argv[i], "--ns") == 0) {
+            ns = 1;
+        } else if (strcmp(argv[i], "--count") == 0) {
+            count = 1;
+        } else if (strcmp(argv[i], "--rows") == 0 && i + 1 < argc) {
+            filter = argv[++i];
+        } else {
+            fprintf(stderr, "bench [--quick] [--ns] [--count] [--rows FILTER]\n");
+            return 2;
+        }
+
+    int rounds = quick ? 5 : 40, rows = 0;
+    double batch = quick ? 5e5 : 2e6;
+    if (!count)
+        print_head(ns);
+    for (int c = 0; c < CODES; c++)
+        for (int a = 0; a < ALPHABETS; a++)
+            for (enum call call = CHECK_TABLE; call <= DECODE; call++)
+                for (int d = 0; d < DAMAGES; d++) {
+                    static struct row row;
+                    static struct answer answer;
+                    double best[IMPLEMENTATIONS];
+                    /* A table check does not depend on q; only a decode depends on the damage. */
+                    if ((call == CHECK_TABLE && a > 0) || (call != DECODE && d > 0))
+                        continue;
+                    make_row(&row, &codes[c], alphabets[a], call, damages[d]);
+                    if (strstr(row.name, filter) == NULL || (count && !to_count(&row, damages[d])))
+                        continue;
+                    rows++;
+                    if (count) {
+                        count_row(&row);
+                        continue;
+                    }
+                    if (!agree(&row, &answer))
+                        return 1;
+                    measure(&row, rounds, batch, best);
+                    print_row(&row, best, &answer, ns);
+                }
+    if (rows == 0) {
+        fprintf(stderr, "no row has \"%s\" in its name\n", filter);
+        return 2;
+    }
+    return 0;
+}

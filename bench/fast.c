@@ -1,0 +1,327 @@
+/* fast.c - the four calls by the steps that the library takes, as fast as C makes them without intrinsics.
+ *
+ * CALL(name) makes the names, fast_encode and so on; another prefix keeps the objects of two compilers apart. */
+#include "qmtd.h"
+
+#include <string.h>
+
+#ifndef CALL
+#define CALL(name) fast_##name
+#endif
+
+uint32_t CALL(check_table)(uint32_t q, uint32_t k, const uint8_t *table, size_t table_len);
+uint32_t CALL(encode)(uint32_t q, uint32_t k, const uint8_t *table, size_t table_len,
+                      const uint8_t *data, size_t data_len, uint8_t *page, size_t page_len);
+uint32_t CALL(syndrome)(uint32_t q, uint32_t k, const uint8_t *table, size_t table_len,
+                        const uint8_t *page, size_t page_len, uint8_t *syndrome, size_t syndrome_len);
+uint32_t CALL(decode)(uint32_t q, uint32_t k, const uint8_t *table, size_t table_len,
+                      const uint8_t *page, size_t page_len, const uint8_t *thresholds, size_t thresholds_len,
+                      uint8_t *result, size_t result_len, uint8_t *syndrome, size_t syndrome_len,
+                      uint8_t *difference, size_t difference_len, uint8_t *counts, size_t counts_len);
+
+/* ---- The table ---- */
+
+struct positions {
+    size_t count;
+    size_t at[QMTD_MAX_J];
+};
+
+static uint32_t read_table(uint32_t q, uint32_t k, const uint8_t *table, size_t table_len, struct positions *positions)
+{
+    size_t n = table_len / 2;
+    if (q < QMTD_MIN_Q || q > QMTD_MAX_Q)
+        return QMTD_BAD_Q;
+    if (k < QMTD_MIN_K || k > QMTD_MAX_K)
+        return QMTD_BAD_K;
+    if (table_len % 2 != 0 || n < QMTD_MIN_J || n > QMTD_MAX_J)
+        return QMTD_BAD_J;
+
+    size_t least = 0; /* the smallest that the next position may be */
+    positions->count = n;
+    for (size_t a = 0; a < n; a++) {
+        size_t p = table[2 * a] | (size_t)table[2 * a + 1] << 8;
+        if (p < least || p >= k)
+            return QMTD_BAD_POSITION;
+        positions->at[a] = p;
+        least = p + 1;
+    }
+
+    /* One flag for each difference; a pair of positions marks two. */
+    uint8_t marked[QMTD_MAX_K], twice = 0;
+    memset(marked, 0, k);
+    for (size_t a = 1; a < n; a++)
+        for (size_t b = 0; b < a; b++) {
+            size_t d = positions->at[a] - positions->at[b];
+            twice |= marked[d];
+            marked[d] = 1;
+            twice |= marked[k - d];
+            marked[k - d] = 1;
+        }
+    return twice ? QMTD_NOT_SELF_ORTHOGONAL : QMTD_OK;
+}
+
+uint32_t CALL(check_table)(uint32_t q, uint32_t k, const uint8_t *table, size_t table_len)
+{
+    struct positions positions;
+    return read_table(q, k, table, table_len, &positions);
+}
+
+/* ---- Whole runs of symbols ---- */
+
+enum { LANES = 64 };
+
+/* Is a symbol q or more? Looks at all of them, in lanes: without an early exit the loop runs on vectors. */
+static int out_of_range(uint32_t q, const uint8_t *symbols, size_t n)
+{
+    uint8_t over = 0;
+    size_t i = 0;
+    if (q == 256)
+        return 0;
+    if (n >= LANES) {
+        uint8_t largest[LANES] = {0};
+        for (; i + LANES <= n; i += LANES)
+            for (size_t lane = 0; lane < LANES; lane++)
+                largest[lane] = symbols[i + lane] > largest[lane] ? symbols[i + lane] : largest[lane];
+        for (size_t lane = 0; lane < LANES; lane++)
+            over |= largest[lane] >= q;
+    }
+    for (; i < n; i++)
+        over |= symbols[i] >= q;
+    return over;
+}
+
+/* The nonzero symbols. The zeros are counted in lanes of a byte; n is at most 64 * LANES, so no lane overflows. */
+static uint32_t weight(const uint8_t *symbols, size_t n)
+{
+    uint32_t all = 0;
+    size_t i = 0;
+    if (n >= LANES) {
+        uint8_t zeros[LANES] = {0};
+        for (; i + LANES <= n; i += LANES)
+            for (size_t lane = 0; lane < LANES; lane++)
+                zeros[lane] += symbols[i + lane] == 0;
+        for (size_t lane = 0; lane < LANES; lane++)
+            all += zeros[lane];
+    }
+    for (; i < n; i++)
+        all += symbols[i] == 0;
+    return (uint32_t)n - all;
+}
+
+/* a + b and a - b modulo q. q is taken modulo 256, so that at q = 256 both cases are the plain wrapping byte. */
+static inline uint8_t add(uint8_t q, uint8_t a, uint8_t b)
+{
+    uint8_t room = (uint8_t)(q - b), back = a < room ? q : 0;
+    return (uint8_t)((uint8_t)(a - room) + back);
+}
+
+static inline uint8_t subtract(uint8_t q, uint8_t a, uint8_t b)
+{
+    uint8_t back = a < b ? q : 0;
+    return (uint8_t)((uint8_t)(a - b) + back);
+}
+
+static void add_run(uint32_t q, uint8_t *restrict sums, const uint8_t *restrict symbols, size_t n)
+{
+    if (q == 256)
+        for (size_t i = 0; i < n; i++)
+            sums[i] = (uint8_t)(sums[i] + symbols[i]);
+    else
+        for (size_t i = 0; i < n; i++)
+            sums[i] = add((uint8_t)q, sums[i], symbols[i]);
+}
+
+static void subtract_run(uint32_t q, uint8_t *restrict sums, const uint8_t *restrict symbols, size_t n)
+{
+    if (q == 256)
+        for (size_t i = 0; i < n; i++)
+            sums[i] = (uint8_t)(sums[i] - symbols[i]);
+    else
+        for (size_t i = 0; i < n; i++)
+            sums[i] = subtract((uint8_t)q, sums[i], symbols[i]);
+}
+
+/* The sums of the data symbols in each check. The row of a position is the data rotated by it, as two straight runs;
+ * the first row is copied, the others are added. */
+static void sum_rows(uint32_t q, size_t k, const struct positions *positions, const uint8_t *restrict data,
+                     uint8_t *restrict sums)
+{
+    size_t p = positions->at[0];
+    memcpy(sums + p, data, k - p);
+    memcpy(sums, data + (k - p), p);
+    for (size_t a = 1; a < positions->count; a++) {
+        p = positions->at[a];
+        add_run(q, sums + p, data, k - p);
+        add_run(q, sums, data + (k - p), p);
+    }
+}
+
+uint32_t CALL(encode)(uint32_t q, uint32_t k, const uint8_t *table, size_t table_len,
+                      const uint8_t *data, size_t data_len, uint8_t *page, size_t page_len)
+{
+    struct positions positions;
+    uint32_t number = read_table(q, k, table, table_len, &positions);
+    if (number != QMTD_OK)
+        return number;
+    if (data_len != k || page_len != 2 * (size_t)k)
+        return QMTD_BAD_LENGTH;
+    if (out_of_range(q, data, k))
+        return QMTD_BAD_SYMBOL;
+
+    memcpy(page, data, k);
+    sum_rows(q, k, &positions, data, page + k);
+    return QMTD_OK;
+}
+
+static void work_out_syndrome(uint32_t q, size_t k, const struct positions *positions, const uint8_t *restrict page,
+                              uint8_t *restrict syndrome)
+{
+    sum_rows(q, k, positions, page, syndrome);
+    subtract_run(q, syndrome, page + k, k);
+}
+
+uint32_t CALL(syndrome)(uint32_t q, uint32_t k, const uint8_t *table, size_t table_len,
+                        const uint8_t *page, size_t page_len, uint8_t *syndrome, size_t syndrome_len)
+{
+    struct positions positions;
+    uint32_t number = read_table(q, k, table, table_len, &positions);
+    if (number != QMTD_OK)
+        return number;
+    if (page_len != 2 * (size_t)k || syndrome_len != k)
+        return QMTD_BAD_LENGTH;
+    if (out_of_range(q, page, page_len))
+        return QMTD_BAD_SYMBOL;
+
+    work_out_syndrome(q, k, &positions, page, syndrome);
+    return QMTD_OK;
+}
+
+/* ---- Decoding ---- */
+
+/* The value that leads all others by more than the threshold, or 0 if none does; zero itself has `zeros` votes.
+ * The estimates here are those that are not 0. votes has a count for each value, all 0 before and after. */
+static inline uint8_t vote(const uint8_t *estimates, size_t n, uint32_t zeros, uint32_t threshold, uint8_t *votes)
+{
+    uint32_t first = 0, next = zeros; /* first is a count, with its value in the low byte */
+    for (size_t a = 0; a < n; a++) {
+        uint32_t count = ++votes[estimates[a]] * 256u + estimates[a];
+        first = count > first ? count : first;
+    }
+    uint8_t leader = (uint8_t)first;
+    uint32_t lead = first / 256;
+    if (lead > zeros + threshold)
+        for (size_t a = 0; a < n; a++)
+            if (estimates[a] != leader && votes[estimates[a]] > next)
+                next = votes[estimates[a]];
+    for (size_t a = 0; a < n; a++)
+        votes[estimates[a]] = 0;
+    return lead > next + threshold ? leader : 0;
+}
+
+/* How many of the symbols at the offsets are 0. */
+static inline uint32_t zeros_at(const uint8_t *symbols, const ptrdiff_t *offsets, size_t n)
+{
+    uint32_t zeros = 0, more = 0;
+    size_t a = 0;
+    for (; a + 4 <= n; a += 4) {
+        zeros += symbols[offsets[a]] == 0;
+        more += symbols[offsets[a + 1]] == 0;
+        zeros += symbols[offsets[a + 2]] == 0;
+        more += symbols[offsets[a + 3]] == 0;
+    }
+    for (; a < n; a++)
+        zeros += symbols[offsets[a]] == 0;
+    return zeros + more;
+}
+
+/* One pass; returns its changes. */
+static uint32_t pass(uint8_t q, size_t k, const struct positions *restrict positions, uint32_t threshold,
+                     uint8_t *restrict votes, uint8_t *restrict result, uint8_t *restrict syndrome,
+                     uint8_t *restrict difference)
+{
+    uint32_t changes = 0;
+    size_t n = positions->count, straight = n; /* the positions from `straight` on have wrapped */
+    ptrdiff_t offsets[QMTD_MAX_J];             /* the checks of symbol j are at j + offset */
+    for (size_t a = 0; a < n; a++)
+        offsets[a] = (ptrdiff_t)positions->at[a];
+
+    for (size_t j = 0; j < k; j++) {
+        while (straight > 0 && j + positions->at[straight - 1] >= k)
+            offsets[--straight] -= (ptrdiff_t)k;
+
+        /* Where zeros are this many, no value can lead them by more than the threshold. */
+        uint8_t *checks = syndrome + j;
+        uint32_t zeros = zeros_at(checks, offsets, n) + (difference[j] == 0);
+        if (n + 1 <= 2 * zeros + threshold)
+            continue;
+
+        uint8_t estimates[QMTD_MAX_J + 1];
+        size_t others = difference[j] != 0;
+        estimates[0] = difference[j];
+        for (size_t a = 0; a < n; a++) {
+            uint8_t estimate = checks[offsets[a]];
+            estimates[others] = estimate;
+            others += estimate != 0;
+        }
+        uint8_t h = vote(estimates, others, zeros, threshold, votes);
+        if (h == 0)
+            continue;
+
+        changes++;
+        result[j] = subtract(q, result[j], h);
+        difference[j] = subtract(q, difference[j], h);
+        for (size_t a = 0; a < n; a++)
+            checks[offsets[a]] = subtract(q, checks[offsets[a]], h);
+    }
+    return changes;
+}
+
+static void write_number(uint8_t *bytes, uint32_t number)
+{
+    for (int i = 0; i < 4; i++)
+        bytes[i] = (uint8_t)(number >> 8 * i);
+}
+
+uint32_t CALL(decode)(uint32_t q, uint32_t k, const uint8_t *table, size_t table_len,
+                      const uint8_t *page, size_t page_len, const uint8_t *thresholds, size_t thresholds_len,
+                      uint8_t *result, size_t result_len, uint8_t *syndrome, size_t syndrome_len,
+                      uint8_t *difference, size_t difference_len, uint8_t *counts, size_t counts_len)
+{
+    struct positions positions;
+    uint32_t number = read_table(q, k, table, table_len, &positions);
+    if (number != QMTD_OK)
+        return number;
+    if (page_len != 2 * (size_t)k || result_len != k || syndrome_len != k || difference_len != k ||
+        counts_len != QMTD_COUNTS_LEN)
+        return QMTD_BAD_LENGTH;
+    if (out_of_range(q, page, page_len))
+        return QMTD_BAD_SYMBOL;
+    if (thresholds_len < QMTD_MIN_THRESHOLDS || thresholds_len > QMTD_MAX_THRESHOLDS)
+        return QMTD_BAD_THRESHOLD_COUNT;
+    if (out_of_range(QMTD_MAX_THRESHOLD + 1, thresholds, thresholds_len))
+        return QMTD_BAD_THRESHOLD;
+
+    memcpy(result, page, k);
+    memset(difference, 0, k);
+    work_out_syndrome(q, k, &positions, page, syndrome);
+
+    /* A page at distance 0 needs no visits: its one pass changes nothing. */
+    uint32_t start = weight(syndrome, k), end = 0, passes = 1, changes = 0;
+    if (start > 0) {
+        uint8_t votes[256] = {0};
+        for (passes = 0; passes < thresholds_len;) {
+            uint32_t threshold = thresholds[passes++];
+            uint32_t more = pass((uint8_t)q, k, &positions, threshold, votes, result, syndrome, difference);
+            changes += more;
+            if (more == 0)
+                break;
+        }
+        end = weight(syndrome, k) + weight(difference, k);
+    }
+
+    write_number(counts, passes);
+    write_number(counts + 4, changes);
+    write_number(counts + 8, start);
+    write_number(counts + 12, end);
+    return QMTD_OK;
+}
