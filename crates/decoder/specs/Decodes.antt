@@ -18,7 +18,7 @@ use Rattle.theory.specs.Falling.{after-sized, idle-after}
 use Rattle.theory.specs.Steps.{SymbolsBelow, stateWeight}
 use Rattle.theory.specs.Tables.{orthogonal-test}
 use Rattle.passes.specs.Progress.{Progress, ran, runOf, visits, Ready}
-use Rattle.passes.specs.declared.Tally.{Tally}
+use Rattle.counts.specs.declared.Tally.{Tally}
 
 -- what a decode that is not refused works on
 pub record Opens (c : Code) (page r s d : List ℕ) : Type 0 where

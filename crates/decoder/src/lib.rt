@@ -1,5 +1,5 @@
 // Decode: the tests, the opening of a page, and the call.
-use passes::Tally;
+use counts::Tally;
 ghost use mathlib.Core.Path.{_≡_};
 ghost use mathlib.Core.Bool.{_&&_};
 ghost use Prim.Native.Nat.{_+_, _<_, _≤_};

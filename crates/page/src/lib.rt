@@ -51,7 +51,7 @@ fn add_checks(q: u32, positions: &[u16], data: &[u8], checks: &mut [u8])
 }
 
 // The check symbols of the data.
-pub fn write_checks(q: u32, positions: &[u16], data: &[u8], checks: &mut [u8])
+fn write_checks(q: u32, positions: &[u16], data: &[u8], checks: &mut [u8])
     requires { ⌜ Limits (codeOf q (length (now «data»)) (now positions)) × Below q (now «data») × (length (now checks) ≡ length (now «data»)) ⌝ }
     ensures { λ _. ⌜ now (checks .exit) ≡ checkSymbols (codeOf q (length (now («data» .entry))) (now (positions .entry))) (now («data» .entry)) ⌝ }
 {

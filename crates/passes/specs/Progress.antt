@@ -23,7 +23,7 @@ use Rattle.theory.specs.Turns.{pass-turn, pass-count-turn}
 use Rattle.passes.specs.Visits.{toSubtract, subtract-zero, subtract-some, subtract-below}
 use Rattle.vote.specs.Checks.{AtChecks}
 use Rattle.zeros.specs.Counts.{AllChecks}
-use Rattle.passes.specs.declared.Tally.{Tally}
+use Rattle.counts.specs.declared.Tally.{Tally}
 
 -- the state and the tally
 pub record Progress : Type 0 where

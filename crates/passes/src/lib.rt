@@ -1,4 +1,5 @@
-// The passes: the tally of a decode, a visit to a data symbol, and the run of passes.
+// The passes: a visit to a data symbol, and the run of passes.
+use counts::Tally;
 ghost use mathlib.Core.Path.{_≡_};
 ghost use mathlib.Core.List.{_∷_};
 ghost use Prim.Native.Nat.{_+_, _<_, _≤_};
@@ -8,66 +9,7 @@ ghost use Rattle.model.specs.Code.{codeOf, checksBy};
 ghost use Rattle.vote.specs.Checks.{AtChecks};
 ghost use Rattle.zeros.specs.Counts.{zeroCounts};
 ghost use Rattle.passes.specs.Visits.{toSubtract};
-ghost use Rattle.passes.specs.Progress.{counted, withPasses, progress, Ready, visitOf, runOf};
-
-// The four counts of a decode.
-pub struct Tally {
-    pub passes: u32,
-    pub changes: u32,
-    pub start: u32,
-    pub end: u32,
-}
-
-impl Tally {
-    // Before the first pass, at a distance.
-    pub fn opened(start: u32) -> Self
-        ensures { λ r. ⌜ r ≡ record { passes = 0; changes = 0; start = start; end = start } ⌝ }
-    {
-        Tally {
-            passes: 0,
-            changes: 0,
-            start,
-            end: start,
-        }
-    }
-
-    // One change more.
-    pub fn changed(self) -> Self
-        requires { ⌜ self .changes < 4294967295 ⌝ }
-        ensures { λ r. ⌜ r ≡ counted 1 self ⌝ }
-    {
-        Tally {
-            passes: self.passes,
-            changes: self.changes + 1,
-            start: self.start,
-            end: self.end,
-        }
-    }
-
-    // With the distance at the end.
-    pub fn ended(self, end: u32) -> Self
-        ensures { λ r. ⌜ r ≡ record { passes = self .passes; changes = self .changes; start = self .start; end = end } ⌝ }
-    {
-        Tally {
-            passes: self.passes,
-            changes: self.changes,
-            start: self.start,
-            end,
-        }
-    }
-
-    // With the number of passes that were run.
-    pub fn passed(self, passes: u32) -> Self
-        ensures { λ r. ⌜ r ≡ withPasses passes self ⌝ }
-    {
-        Tally {
-            passes,
-            changes: self.changes,
-            start: self.start,
-            end: self.end,
-        }
-    }
-}
+ghost use Rattle.passes.specs.Progress.{progress, Ready, visitOf, runOf};
 
 // h0 where estimates are a change at a threshold, else 0. A change needs a value that stands more often among the
 // estimates than their zeros and the threshold together, which a quick test tells before the vote.

@@ -3,7 +3,7 @@ use borrow.Author.Needs.{needs}
 use mathlib.Core.Path.{_≡_, refl, sym, _∙_, ap, subst}
 use Rattle.model.specs.Code.{codeOf}
 use Rattle.model.specs.Decoder.{State, opened}
-use Rattle.passes.specs.declared.Tally.{Tally}
+use Rattle.counts.specs.declared.Tally.{Tally}
 use Rattle.passes.specs.Progress.{Ready, progress, runOf, both}
 use Rattle.decoder.specs.Decodes.{opened-ready, clean-decoded, run-decoded, run-lengths}
 use Rattle.decoder.proofs.decode_page.Statement.{statement}
