@@ -13,8 +13,8 @@ RT = rt
 PYTHON = python3 -B
 CFLAGS = -std=c99 -O2 -Wall -Wextra -Werror
 
-# What the archive is made from: every crate but the test program.
-SOURCES := $(shell find crates -path crates/worked -prune -o -type f -print) crates.txt
+# What the archive is made from: every crate but the test programs.
+SOURCES := $(shell find crates \( -path crates/worked -o -path crates/cases \) -prune -o -type f -print) crates.txt
 VERSION := $(shell awk '/define QMTD_VERSION_(MAJOR|MINOR|PATCH) / { v = v dot $$3; dot = "." } END { print v }' include/qmtd.h)
 
 .NOTPARALLEL:
@@ -22,17 +22,24 @@ VERSION := $(shell awk '/define QMTD_VERSION_(MAJOR|MINOR|PATCH) / { v = v dot $
 
 lib: build/libqmtd.a
 
+# rt's account of the proofs goes into build/prove.log, and is shown where it fails.
 build/libqmtd.a: $(SOURCES)
-	$(RT) staticlib qmtd
 	@mkdir -p build
+	@echo "building the archive .."
+	@$(RT) staticlib qmtd >build/prove.log 2>&1 || { cat build/prove.log; exit 1; }
 	cp target/staticlib/libqmtd.a $@
 
-# Every crate after those it depends on; the first time this takes a while.
+# The crate qmtd and those that it builds on, each after those it depends on; the first time this takes some minutes.
 prove:
 	@mkdir -p build
-	@set -- $$(awk -F: '{ sub(/#.*/, "") } \
-	                    NF { gsub(/ /, "", $$1); print $$1, $$1; n = split($$2, deps, " "); \
-	                         for (i = 1; i <= n; i++) print deps[i], $$1 }' crates.txt | tsort); \
+	@set -- $$(awk -F: '{ sub(/#.*/, "") } NF { gsub(/ /, "", $$1); deps[$$1] = $$2 } \
+	                    function add(crate, n, i, on) { \
+	                      if (!(crate in deps) || seen[crate]++) return; \
+	                      n = split(deps[crate], on, " "); \
+	                      for (i = 1; i <= n; i++) add(on[i]); \
+	                      print crate \
+	                    } \
+	                    END { add("qmtd") }' crates.txt); \
 	total=$$#; n=0; \
 	for crate do \
 	  n=$$((n + 1)); echo "[$$n/$$total] proving $$crate .."; \
