@@ -38,7 +38,8 @@ fn decode_answer(
     syndrome: usize,
     difference: usize,
 ) -> u32
-    ensures { λ r. ⌜ r ≡ decodeAnswer (codeOf q k (now (positions .entry))) (now (page .entry)) (now (thresholds .entry)) result syndrome difference ⌝ }
+    ensures { λ r. ⌜ r
+        ≡ decodeAnswer (codeOf q k (now (positions .entry))) (now (page .entry)) (now (thresholds .entry)) result syndrome difference ⌝ }
 {
     let fits = lengths_fit(k as usize, page.len(), result, syndrome, difference);
     let number = page::page_answer(q, k, positions, fits, page);
@@ -69,8 +70,10 @@ fn open_page(
     d: &mut [u8],
 ) -> u32
     requires { ⌜ Opens (codeOf q k (now positions)) (now page) (now result) (now s) (now d) ⌝ }
-    ensures state { λ r. ⌜ record { result = now (result .exit); syndrome = now (s .exit); difference = now (d .exit) } ≡ opened (codeOf q k (now (positions .entry))) (now (page .entry)) ⌝ }
-    ensures distance { λ r. ⌜ r ≡ distanceTo (codeOf q k (now (positions .entry))) (now (page .entry)) (opened (codeOf q k (now (positions .entry))) (now (page .entry))) ⌝ }
+    ensures state { λ r. ⌜ record { result = now (result .exit); syndrome = now (s .exit); difference = now (d .exit) }
+        ≡ opened (codeOf q k (now (positions .entry))) (now (page .entry)) ⌝ }
+    ensures distance { λ r. ⌜ r
+        ≡ distanceTo (codeOf q k (now (positions .entry))) (now (page .entry)) (opened (codeOf q k (now (positions .entry))) (now (page .entry))) ⌝ }
 {
     symbols::copy_into(result, &page[..k]);
     page::write_syndrome(q, positions, page, s);
@@ -97,8 +100,11 @@ fn decode_page(
     s: &mut [u8],
     d: &mut [u8],
 ) -> Tally
-    requires { ⌜ Opens (codeOf q k (now positions)) (now page) (now result) (now s) (now d) × (0 < length (now thresholds)) × (length (now thresholds) ≤ 64) ⌝ }
-    ensures { λ t. ⌜ progress (now (result .exit)) (now (s .exit)) (now (d .exit)) t ≡ record { state = decodedState (codeOf q k (now (positions .entry))) (now (thresholds .entry)) (now (page .entry)); tally = tallyOf (decodedCounts (codeOf q k (now (positions .entry))) (now (thresholds .entry)) (now (page .entry))) } ⌝ }
+    requires { ⌜ Opens (codeOf q k (now positions)) (now page) (now result) (now s) (now d)
+        × (0 < length (now thresholds))
+        × (length (now thresholds) ≤ 64) ⌝ }
+    ensures { λ t. ⌜ progress (now (result .exit)) (now (s .exit)) (now (d .exit)) t
+        ≡ record { state = decodedState (codeOf q k (now (positions .entry))) (now (thresholds .entry)) (now (page .entry)); tally = tallyOf (decodedCounts (codeOf q k (now (positions .entry))) (now (thresholds .entry)) (now (page .entry))) } ⌝ }
 {
     let start = open_page(q, k, positions, page, result, s, d);
     if start == 0 {
@@ -134,7 +140,12 @@ pub fn decode(
     syndrome: &mut [u8],
     difference: &mut [u8],
 ) -> Decoded
-    ensures outcome { λ r. ⌜ record { number = r .number; counts = record { passes = r .tally .passes; changes = r .tally .changes; start = r .tally .start; end = r .tally .end }; state = record { result = now (result .exit); syndrome = now (syndrome .exit); difference = now (difference .exit) } } ≡ decodeOutcome (codeOf q k (now (positions .entry))) (now (page .entry)) (now (thresholds .entry)) (record { result = now (result .entry); syndrome = now (syndrome .entry); difference = now (difference .entry) }) ⌝ }
+    ensures outcome { λ r. ⌜ record {
+      number = r .number;
+      counts = record { passes = r .tally .passes; changes = r .tally .changes; start = r .tally .start; end = r .tally .end };
+      state = record { result = now (result .exit); syndrome = now (syndrome .exit); difference = now (difference .exit) };
+    } ≡ decodeOutcome (codeOf q k (now (positions .entry))) (now (page .entry)) (now (thresholds .entry))
+        (record { result = now (result .entry); syndrome = now (syndrome .entry); difference = now (difference .entry) }) ⌝ }
     ensures falling { λ r. ⌜ (r .number ≡ 0 → RunFalls (codeOf q k (now (positions .entry))) (now (thresholds .entry)) (now (page .entry))) ⌝ }
     ensures recovery { λ r. ⌜ (r .number ≡ 0 → Recovers (codeOf q k (now (positions .entry))) (now (thresholds .entry)) (now (page .entry)) (now (result .exit))) ⌝ }
 {

@@ -39,7 +39,9 @@ pub fn page_answer(q: u32, k: u32, positions: &[u16], fits: bool, input: &[u8]) 
 
 // The check symbols of the data, from checks that are all 0: each position adds the data turned by it.
 fn add_checks(q: u32, positions: &[u16], data: &[u8], checks: &mut [u8])
-    requires { ⌜ Limits (codeOf q (length (now «data»)) (now positions)) × Below q (now «data») × (now checks ≡ tabulate (length (now «data»)) (λ i. 0)) ⌝ }
+    requires { ⌜ Limits (codeOf q (length (now «data»)) (now positions))
+        × Below q (now «data»)
+        × (now checks ≡ tabulate (length (now «data»)) (λ i. 0)) ⌝ }
     ensures { λ _. ⌜ now (checks .exit) ≡ checkSymbols (codeOf q (length (now («data» .entry))) (now (positions .entry))) (now («data» .entry)) ⌝ }
 {
     let mut n = 0;
@@ -61,7 +63,9 @@ fn write_checks(q: u32, positions: &[u16], data: &[u8], checks: &mut [u8])
 
 // The page of the data: the data, then its checks.
 fn write_page(q: u32, positions: &[u16], data: &[u8], page: &mut [u8])
-    requires { ⌜ Limits (codeOf q (length (now «data»)) (now positions)) × Below q (now «data») × (length (now page) ≡ length (now «data») + length (now «data»)) ⌝ }
+    requires { ⌜ Limits (codeOf q (length (now «data»)) (now positions))
+        × Below q (now «data»)
+        × (length (now page) ≡ length (now «data») + length (now «data»)) ⌝ }
     ensures { λ _. ⌜ now (page .exit) ≡ codeWord (codeOf q (length (now («data» .entry))) (now (positions .entry))) (now («data» .entry)) ⌝ }
 {
     let k = data.len();
@@ -81,7 +85,8 @@ pub fn write_syndrome(q: u32, positions: &[u16], page: &[u8], s: &mut [u8])
 
 // Writes the page of the data.
 pub fn encode(q: u32, k: u32, positions: &[u16], data: &[u8], page: &mut [u8]) -> u32
-    ensures outcome { λ r. ⌜ record { number = r; content = now (page .exit) } ≡ encodeOutcome (codeOf q k (now (positions .entry))) (now («data» .entry)) (now (page .entry)) ⌝ }
+    ensures outcome { λ r. ⌜ record { number = r; content = now (page .exit) }
+        ≡ encodeOutcome (codeOf q k (now (positions .entry))) (now («data» .entry)) (now (page .entry)) ⌝ }
     ensures word { λ r. ⌜ (r ≡ 0 → Encodes (codeOf q k (now (positions .entry))) (now («data» .entry)) (now (page .exit))) ⌝ }
 {
     let n = k as usize;
@@ -101,7 +106,8 @@ pub fn encode(q: u32, k: u32, positions: &[u16], data: &[u8], page: &mut [u8]) -
 
 // Writes the syndrome of a page.
 pub fn syndrome(q: u32, k: u32, positions: &[u16], page: &[u8], s: &mut [u8]) -> u32
-    ensures { λ r. ⌜ record { number = r; content = now (s .exit) } ≡ syndromeOutcome (codeOf q k (now (positions .entry))) (now (page .entry)) (now (s .entry)) ⌝ }
+    ensures { λ r. ⌜ record { number = r; content = now (s .exit) }
+        ≡ syndromeOutcome (codeOf q k (now (positions .entry))) (now (page .entry)) (now (s .entry)) ⌝ }
 {
     let n = k as usize;
     let number = page_answer(

@@ -37,7 +37,10 @@ fn full_vote(
     zeros: u8,
     s: &[u8],
 ) -> u8
-    requires { ⌜ AtChecks k (now positions) j (now s) × (0 < length (now positions)) × (zeros ≡ count 0 (own ∷ symbolsAt (now s) (checksBy k (now positions) j))) × (zeros + threshold ≤ 255) ⌝ }
+    requires { ⌜ AtChecks k (now positions) j (now s)
+        × (0 < length (now positions))
+        × (zeros ≡ count 0 (own ∷ symbolsAt (now s) (checksBy k (now positions) j)))
+        × (zeros + threshold ≤ 255) ⌝ }
     ensures { λ r. ⌜ r ≡ toSubtract threshold (own ∷ symbolsAt (now (s .entry)) (checksBy k (now (positions .entry)) j)) ⌝ }
 {
     let n = positions.len() + 1;
@@ -63,7 +66,9 @@ fn voted(
     at_checks: u8,
     s: &[u8],
 ) -> u8
-    requires { ⌜ AtChecks k (now positions) j (now s) × (0 < length (now positions)) × («at_checks» ≡ count 0 (symbolsAt (now s) (checksBy k (now positions) j))) ⌝ }
+    requires { ⌜ AtChecks k (now positions) j (now s)
+        × (0 < length (now positions))
+        × («at_checks» ≡ count 0 (symbolsAt (now s) (checksBy k (now positions) j))) ⌝ }
     ensures { λ r. ⌜ r ≡ toSubtract threshold (own ∷ symbolsAt (now (s .entry)) (checksBy k (now (positions .entry)) j)) ⌝ }
 {
     let zeros = at_checks + zero(own);
@@ -86,8 +91,12 @@ fn visit(
     zeros: &mut [u8],
     tally: Tally,
 ) -> Tally
-    requires { ⌜ Ready (codeOf q k (now positions)) (record { result = now result; syndrome = now syndrome; difference = now difference }) × (j < k) × (tally .changes < 4294967295) × (now zeros ≡ zeroCounts k (now positions) (now syndrome)) ⌝ }
-    ensures step { λ t. ⌜ progress (now (result .exit)) (now (syndrome .exit)) (now (difference .exit)) t ≡ visitOf (codeOf q k (now (positions .entry))) (record { symbol = j; threshold = threshold }) (progress (now (result .entry)) (now (syndrome .entry)) (now (difference .entry)) tally) ⌝ }
+    requires { ⌜ Ready (codeOf q k (now positions)) (record { result = now result; syndrome = now syndrome; difference = now difference })
+        × (j < k)
+        × (tally .changes < 4294967295)
+        × (now zeros ≡ zeroCounts k (now positions) (now syndrome)) ⌝ }
+    ensures step { λ t. ⌜ progress (now (result .exit)) (now (syndrome .exit)) (now (difference .exit)) t
+        ≡ visitOf (codeOf q k (now (positions .entry))) (record { symbol = j; threshold = threshold }) (progress (now (result .entry)) (now (syndrome .entry)) (now (difference .entry)) tally) ⌝ }
     ensures counted { λ t. ⌜ now (zeros .exit) ≡ zeroCounts k (now (positions .entry)) (now (syndrome .exit)) ⌝ }
 {
     let own = difference[j];
@@ -115,8 +124,12 @@ fn run_counted(
     zeros: &mut [u8],
     opened: Tally,
 ) -> Tally
-    requires { ⌜ Ready (codeOf q k (now positions)) (record { result = now result; syndrome = now syndrome; difference = now difference }) × (length (now thresholds) ≤ 64) × (opened .changes ≡ 0) × (now zeros ≡ zeroCounts k (now positions) (now syndrome)) ⌝ }
-    ensures { λ t. ⌜ progress (now (result .exit)) (now (syndrome .exit)) (now (difference .exit)) t ≡ runOf (codeOf q k (now (positions .entry))) (now (thresholds .entry)) (progress (now (result .entry)) (now (syndrome .entry)) (now (difference .entry)) opened) ⌝ }
+    requires { ⌜ Ready (codeOf q k (now positions)) (record { result = now result; syndrome = now syndrome; difference = now difference })
+        × (length (now thresholds) ≤ 64)
+        × (opened .changes ≡ 0)
+        × (now zeros ≡ zeroCounts k (now positions) (now syndrome)) ⌝ }
+    ensures { λ t. ⌜ progress (now (result .exit)) (now (syndrome .exit)) (now (difference .exit)) t
+        ≡ runOf (codeOf q k (now (positions .entry))) (now (thresholds .entry)) (progress (now (result .entry)) (now (syndrome .entry)) (now (difference .entry)) opened) ⌝ }
 {
     let n = thresholds.len();
     let mut tally = opened;
@@ -163,8 +176,12 @@ fn run_with(
     zeros: &mut [u8],
     opened: Tally,
 ) -> Tally
-    requires { ⌜ Ready (codeOf q k (now positions)) (record { result = now result; syndrome = now syndrome; difference = now difference }) × (length (now thresholds) ≤ 64) × (opened .changes ≡ 0) × (length (now zeros) ≡ k) ⌝ }
-    ensures { λ t. ⌜ progress (now (result .exit)) (now (syndrome .exit)) (now (difference .exit)) t ≡ runOf (codeOf q k (now (positions .entry))) (now (thresholds .entry)) (progress (now (result .entry)) (now (syndrome .entry)) (now (difference .entry)) opened) ⌝ }
+    requires { ⌜ Ready (codeOf q k (now positions)) (record { result = now result; syndrome = now syndrome; difference = now difference })
+        × (length (now thresholds) ≤ 64)
+        × (opened .changes ≡ 0)
+        × (length (now zeros) ≡ k) ⌝ }
+    ensures { λ t. ⌜ progress (now (result .exit)) (now (syndrome .exit)) (now (difference .exit)) t
+        ≡ runOf (codeOf q k (now (positions .entry))) (now (thresholds .entry)) (progress (now (result .entry)) (now (syndrome .entry)) (now (difference .entry)) opened) ⌝ }
 {
     zeros::count_zeros(positions, syndrome, zeros);
     run_counted(
@@ -191,8 +208,11 @@ pub fn run(
     difference: &mut [u8],
     opened: Tally,
 ) -> Tally
-    requires { ⌜ Ready (codeOf q k (now positions)) (record { result = now result; syndrome = now syndrome; difference = now difference }) × (length (now thresholds) ≤ 64) × (opened .changes ≡ 0) ⌝ }
-    ensures { λ t. ⌜ progress (now (result .exit)) (now (syndrome .exit)) (now (difference .exit)) t ≡ runOf (codeOf q k (now (positions .entry))) (now (thresholds .entry)) (progress (now (result .entry)) (now (syndrome .entry)) (now (difference .entry)) opened) ⌝ }
+    requires { ⌜ Ready (codeOf q k (now positions)) (record { result = now result; syndrome = now syndrome; difference = now difference })
+        × (length (now thresholds) ≤ 64)
+        × (opened .changes ≡ 0) ⌝ }
+    ensures { λ t. ⌜ progress (now (result .exit)) (now (syndrome .exit)) (now (difference .exit)) t
+        ≡ runOf (codeOf q k (now (positions .entry))) (now (thresholds .entry)) (progress (now (result .entry)) (now (syndrome .entry)) (now (difference .entry)) opened) ⌝ }
 {
     if k <= 128 {
         let mut few = [0u8; 128];

@@ -85,7 +85,8 @@ pub extern "C" fn qmtd_check_table(q: u32, k: u32, table: &[u8]) -> u32
 // Encodes data into a page.
 #[no_mangle]
 pub extern "C" fn qmtd_encode(q: u32, k: u32, table: &[u8], data: &[u8], page: &mut [u8]) -> u32
-    ensures outcome { λ r. ⌜ record { number = r; content = now (page .exit) } ≡ encodeOutcome (codeOf q k (positionsOf (now (table .entry)))) (now («data» .entry)) (now (page .entry)) ⌝ }
+    ensures outcome { λ r. ⌜ record { number = r; content = now (page .exit) }
+        ≡ encodeOutcome (codeOf q k (positionsOf (now (table .entry)))) (now («data» .entry)) (now (page .entry)) ⌝ }
     ensures word { λ r. ⌜ (r ≡ 0 → Encodes (codeOf q k (positionsOf (now (table .entry)))) (now («data» .entry)) (now (page .exit))) ⌝ }
 {
     let mut positions = [0u16; 32];
@@ -102,7 +103,8 @@ pub extern "C" fn qmtd_syndrome(
     page: &[u8],
     syndrome: &mut [u8],
 ) -> u32
-    ensures { λ r. ⌜ record { number = r; content = now (syndrome .exit) } ≡ syndromeOutcome (codeOf q k (positionsOf (now (table .entry)))) (now (page .entry)) (now (syndrome .entry)) ⌝ }
+    ensures { λ r. ⌜ record { number = r; content = now (syndrome .exit) }
+        ≡ syndromeOutcome (codeOf q k (positionsOf (now (table .entry)))) (now (page .entry)) (now (syndrome .entry)) ⌝ }
 {
     let mut positions = [0u16; 32];
     let n = read_positions(table, &mut positions);
@@ -122,7 +124,8 @@ pub extern "C" fn qmtd_decode(
     difference: &mut [u8],
     counts: &mut [u8],
 ) -> u32
-    ensures outcome { λ r. ⌜ record { number = r; state = record { result = now (result .exit); syndrome = now (syndrome .exit); difference = now (difference .exit) }; counts = now (counts .exit) } ≡ cDecodeOutcome (codeOf q k (positionsOf (now (table .entry)))) (now (page .entry)) (now (thresholds .entry)) (record { result = now (result .entry); syndrome = now (syndrome .entry); difference = now (difference .entry) }) (now (counts .entry)) ⌝ }
+    ensures outcome { λ r. ⌜ record { number = r; state = record { result = now (result .exit); syndrome = now (syndrome .exit); difference = now (difference .exit) }; counts = now (counts .exit) }
+        ≡ cDecodeOutcome (codeOf q k (positionsOf (now (table .entry)))) (now (page .entry)) (now (thresholds .entry)) (record { result = now (result .entry); syndrome = now (syndrome .entry); difference = now (difference .entry) }) (now (counts .entry)) ⌝ }
     ensures falling { λ r. ⌜ (r ≡ 0 → RunFalls (codeOf q k (positionsOf (now (table .entry)))) (now (thresholds .entry)) (now (page .entry))) ⌝ }
     ensures recovery { λ r. ⌜ (r ≡ 0 → Recovers (codeOf q k (positionsOf (now (table .entry)))) (now (thresholds .entry)) (now (page .entry)) (now (result .exit))) ⌝ }
 {

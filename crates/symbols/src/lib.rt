@@ -121,7 +121,8 @@ pub fn sub_into(q: u32, acc: &mut [u8], src: &[u8])
 // src turned by p places and added to acc, in two straight runs: check i gets data symbol (i − p) mod k.
 pub fn add_rotated(q: u32, p: usize, acc: &mut [u8], src: &[u8])
     requires { ⌜ (2 ≤ q) × (q ≤ 256) × (length (now acc) ≡ length (now src)) × (p < length (now src)) × Below q (now acc) × Below q (now src) ⌝ }
-    ensures { λ _. ⌜ now (acc .exit) ≡ tabulate (length (now (src .entry))) (λ i. add q (getD (now (acc .entry)) i 0) (getD (now (src .entry)) (sub (length (now (src .entry))) i p) 0)) ⌝ }
+    ensures { λ _. ⌜ now (acc .exit)
+        ≡ tabulate (length (now (src .entry))) (λ i. add q (getD (now (acc .entry)) i 0) (getD (now (src .entry)) (sub (length (now (src .entry))) i p) 0)) ⌝ }
 {
     let rest = src.len() - p;
     add_into(q, &mut acc[p..], &src[..rest]);

@@ -67,7 +67,10 @@ fn mark_from(k: usize, b: usize, later: &[u16], seen: &mut [u8]) -> bool
 // The differences of all ordered pairs of different positions are all different. `seen` has a flag, 0 at first, for each value up to half of k.
 // A difference that is half of k is its own opposite and would stand twice, so its flag is set beforehand.
 fn differences_differ(k: usize, positions: &[u16], seen: &mut [u8]) -> bool
-    requires { ⌜ (0 < k) × (positionsFit k 0 (now positions) ≡ true) × (k < length (now seen) + length (now seen)) × ((v : ℕ) → getD (now seen) v 0 ≡ 0) ⌝ }
+    requires { ⌜ (0 < k)
+        × (positionsFit k 0 (now positions) ≡ true)
+        × (k < length (now seen) + length (now seen))
+        × ((v : ℕ) → getD (now seen) v 0 ≡ 0) ⌝ }
     ensures { λ r. ⌜ r ≡ allDifferent (differencesBy k (now (positions .entry)) (now (positions .entry))) ⌝ }
 {
     let half = k / 2;

@@ -115,7 +115,8 @@ pub struct Vote {
 // The vote over 2 to 33 estimates: each is a candidate, and its count is taken over all of them.
 pub fn vote_over(es: &[u8]) -> Vote
     requires { ⌜ (2 ≤ length (now es)) × (length (now es) ≤ 33) ⌝ }
-    ensures { λ r. ⌜ r ≡ record { leader = leader (now (es .entry)); lead = leadCount (now (es .entry)); next = nextCount (now (es .entry)); zeros = zeroCount (now (es .entry)) } ⌝ }
+    ensures { λ r. ⌜ r
+        ≡ record { leader = leader (now (es .entry)); lead = leadCount (now (es .entry)); next = nextCount (now (es .entry)); zeros = zeroCount (now (es .entry)) } ⌝ }
 {
     let best = leader_of(es);
     let h = best.value;

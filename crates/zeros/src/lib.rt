@@ -30,7 +30,8 @@ fn add_zeros(acc: &mut [u8], src: &[u8])
 // One more in acc for each data symbol j whose check (j + p) mod k is 0, in two straight runs.
 fn add_zeros_from(p: usize, acc: &mut [u8], src: &[u8])
     requires { ⌜ (length (now acc) ≡ length (now src)) × (p < length (now src)) × Below 255 (now acc) ⌝ }
-    ensures { λ _. ⌜ now (acc .exit) ≡ tabulate (length (now (src .entry))) (λ j. getD (now (acc .entry)) j 0 + same 0 (getD (now (src .entry)) ((j + p) % length (now (src .entry))) 0)) ⌝ }
+    ensures { λ _. ⌜ now (acc .exit)
+        ≡ tabulate (length (now (src .entry))) (λ j. getD (now (acc .entry)) j 0 + same 0 (getD (now (src .entry)) ((j + p) % length (now (src .entry))) 0)) ⌝ }
 {
     let rest = src.len() - p;
     add_zeros(&mut acc[rest..], &src[..p]);
@@ -61,7 +62,8 @@ fn wrapped(k: usize, a: usize) -> usize
 // v written at check c of the syndrome. Where that makes or ends a zero, the count of each data symbol (c − p) mod k in that check follows.
 fn write_check(k: usize, positions: &[u16], c: usize, v: u8, syndrome: &mut [u8], zeros: &mut [u8])
     requires { ⌜ AllChecks k (now positions) (now syndrome) × (c < k) × (now zeros ≡ zeroCounts k (now positions) (now syndrome)) ⌝ }
-    ensures { λ _. ⌜ (now (syndrome .exit) ≡ set (now (syndrome .entry)) c v) × (now (zeros .exit) ≡ zeroCounts k (now (positions .entry)) (set (now (syndrome .entry)) c v)) ⌝ }
+    ensures { λ _. ⌜ (now (syndrome .exit) ≡ set (now (syndrome .entry)) c v)
+        × (now (zeros .exit) ≡ zeroCounts k (now (positions .entry)) (set (now (syndrome .entry)) c v)) ⌝ }
 {
     let lost = zero_flag(syndrome[c]);
     let gained = zero_flag(v);
@@ -87,8 +89,12 @@ pub fn subtract_checks(
     syndrome: &mut [u8],
     zeros: &mut [u8],
 )
-    requires { ⌜ AtChecks k (now positions) j (now syndrome) × (h ≤ top) × Below (top + 1) (now syndrome) × (now zeros ≡ zeroCounts k (now positions) (now syndrome)) ⌝ }
-    ensures { λ _. ⌜ (now (syndrome .exit) ≡ subtractAt (top + 1) h (checksBy k (now (positions .entry)) j) (now (syndrome .entry))) × (now (zeros .exit) ≡ zeroCounts k (now (positions .entry)) (now (syndrome .exit))) ⌝ }
+    requires { ⌜ AtChecks k (now positions) j (now syndrome)
+        × (h ≤ top)
+        × Below (top + 1) (now syndrome)
+        × (now zeros ≡ zeroCounts k (now positions) (now syndrome)) ⌝ }
+    ensures { λ _. ⌜ (now (syndrome .exit) ≡ subtractAt (top + 1) h (checksBy k (now (positions .entry)) j) (now (syndrome .entry)))
+        × (now (zeros .exit) ≡ zeroCounts k (now (positions .entry)) (now (syndrome .exit))) ⌝ }
 {
     let mut i = 0;
     while i < positions.len() {
