@@ -11,13 +11,13 @@ ghost use Rattle.zeros.specs.Counts.{zeroCounts};
 ghost use Rattle.passes.specs.Visits.{toSubtract};
 ghost use Rattle.passes.specs.Progress.{progress, Ready, visitOf, runOf};
 
-// h0 where estimates are a change at a threshold, else 0. A change needs a value that stands more often among the
+// h0 where estimates are a change at a threshold, else 0. A change needs a leader that stands more often among the
 // estimates than their zeros and the threshold together, which a quick test tells before the vote.
 fn decided(es: &[u8], threshold: u8, zeros: u8) -> u8
     requires { ⌜ (2 ≤ length (now es)) × (length (now es) ≤ 33) × (zeros ≡ count 0 (now es)) × (zeros + threshold ≤ 255) ⌝ }
     ensures { λ r. ⌜ r ≡ toSubtract threshold (now (es .entry)) ⌝ }
 {
-    if !vote::may_change(es, zeros + threshold) {
+    if !vote::lead_above(es, zeros + threshold) {
         return 0;
     }
     let v = vote::vote_over(es);

@@ -21,9 +21,8 @@ no-change t es h =
     is-false (isChange t es)
     (λ w. let f = isChange-facts t es w in omega (arith, f .0, next-max es 0 (f .1), count-other 0 (leader es) es (f .1), count-misses (leader es) es))
 
--- where no value but 0 leads the zeros by more than t, no visit is a change: its leader would
-pub no-change-by : (t : ℕ) (es : List ℕ) → ((v : ℕ) → v ≢ 0 → count v es ≤ count 0 es + t) → isChange t es ≡ false
-unfolding leadCount
+-- where the leader stands no more often than the zeros and t together, no visit is a change
+pub no-change-by : (t : ℕ) (es : List ℕ) → leadCount es ≤ count 0 es + t → isChange t es ≡ false
 no-change-by t es h =
     is-false (isChange t es)
-    (λ w. let f = isChange-facts t es w in omega (arith, f .0, next-max es 0 (f .1), h (leader es) (λ e. f .1 (sym e))))
+    (λ w. let f = isChange-facts t es w in omega (arith, f .0, next-max es 0 (f .1)))

@@ -1,10 +1,8 @@
 // The vote over the estimates of a data symbol, a quick test before it, and the gathering of the estimates.
 ghost use mathlib.Core.Path.{_≡_};
-ghost use mathlib.Core.Logic.{_≢_};
-ghost use mathlib.Core.Bool.{false};
 ghost use mathlib.Core.List.{_∷_};
-ghost use Prim.Native.Nat.{ℕ, _+_, _%_, _<_, _≤_, max};
-ghost use lib.Dec.{eqb};
+ghost use Prim.Native.Nat.{_+_, _%_, _<_, _≤_, max};
+ghost use lib.Dec.{eqb, ltb};
 ghost use lib.ListN.{length};
 ghost use Rattle.model.specs.Code.{checksBy};
 ghost use Rattle.model.specs.Symbols.{choose, same, count, symbolsAt};
@@ -131,22 +129,20 @@ pub fn vote_over(es: &[u8]) -> Vote
     }
 }
 
-// A quick test before the vote: where it says no, no value but 0 stands among the estimates more often than the bound.
-pub fn may_change(es: &[u8], bound: u8) -> bool
+// A quick test before the vote: whether the leader's count is above the bound, by a counter for each value.
+pub fn lead_above(es: &[u8], bound: u8) -> bool
     requires { ⌜ length (now es) ≤ 33 ⌝ }
-    ensures { λ r. ⌜ (r ≡ false → (v : ℕ) → v ≢ 0 → count v (now (es .entry)) ≤ bound) ⌝ }
+    ensures { λ r. ⌜ r ≡ ltb bound (leadCount (now (es .entry))) ⌝ }
 {
     let mut counters = [0u8; 256];
     let mut i = 0;
     while i < es.len() {
         let e = es[i] as usize;
         let c = counters[e] + 1;
-        counters[e] = c;
-        if e != 0 {
-            if bound < c {
-                return true;
-            }
+        if bound < c {
+            return true;
         }
+        counters[e] = c;
         i += 1;
     }
     false

@@ -1,8 +1,12 @@
 -- `passes::decided` meets its contract.
 use borrow.Author.Needs.{needs}
 use borrow.Author.Tests.{not-true}
-use mathlib.Core.Path.{_≡_, ap, _∙_}
+use mathlib.Core.Path.{_≡_, sym, ap, subst, _∙_}
+use mathlib.Core.Bool.{Bool, not}
+use Prim.Native.Nat.{_+_}
 use native.Mathlib.Omega.{arith}
+use lib.Dec.{T, nltb→le}
+use Rattle.model.specs.Vote.{leadCount}
 use Rattle.theory.specs.Voting.{next-le-lead}
 use Rattle.vote.specs.declared.Vote.{Vote}
 use Rattle.vote.specs.Changes.{no-change-by}
@@ -10,18 +14,19 @@ use Rattle.passes.specs.Visits.{subtract-left, subtract-behind, subtract
 use Rattle.passes.proofs.decided.Statement.{statement}
 use Rattle.passes.proofs.decided.Tie as tie
 
-add-may-change : tie.Need-add-may-change
-add-may-change c = search needs
+add-lead-above : tie.Need-add-lead-above
+add-lead-above c = search needs
 
-may-change-requires : tie.Need-may-change-requires
-may-change-requires c κs = search needs
+lead-above-requires : tie.Need-lead-above-requires
+lead-above-requires c κs = search needs
 
 returns : tie.Need-returns
 returns c =
     let b = c .before .before .before in
     let a = b .args in
     subtract-left (a .threshold) (a .es .now)
-    (no-change-by (a .threshold) (a .es .now) (λ v n. omega (arith, b .pre .2, c .before .may-change .ensures (not-true (c .before .may-change .result) (c .if1 .taken)) v n)))
+    (no-change-by (a .threshold) (a .es .now)
+    (omega (arith, b .pre .2, nltb→le (a .zeros + a .threshold) (leadCount (a .es .now)) (subst (λ (w : Bool). T (not w)) (sym (not-true (c .before .lead-above .result) (c .if1 .taken)) ∙ c .before .lead-above .ensures) tt))))
 
 vote-over-requires : tie.Need-vote-over-requires
 vote-over-requires c κs = search needs
@@ -46,8 +51,8 @@ pub decided-spec : {M : Type 1} → statement M
 decided-spec =
     tie.close
     (tie.spec
-    add-may-change
-    may-change-requires
+    add-lead-above
+    lead-above-requires
     returns
     vote-over-requires
     sub-if2

@@ -1,15 +1,10 @@
--- `vote::may_change` meets its contract. The invariant: the counters are those of the estimates passed, and none but that of 0 is above the bound.
-use mathlib.Core.Path.{_≡_, ap}
-use mathlib.Core.Logic.{⊎-elim}
-use mathlib.Core.List.{List}
-use Prim.Native.Nat.{ℕ, _≤_, _-_}
+-- `vote::lead_above` meets its contract. The invariant: the counters are those of the estimates passed, and none is above the bound.
+use Prim.Native.Nat.{_≤_, _-_}
 use native.Mathlib.Omega.{arith}
 use lib.ListN.{length, getD}
-use lib.Seq.{take-all}
-use Rattle.model.specs.Symbols.{count}
-use Rattle.vote.specs.Counters.{Counted, counted-none, counted-few, counted-more}
-use Rattle.vote.proofs.may_change.Statement.{statement}
-use Rattle.vote.proofs.may_change.Tie as tie
+use Rattle.vote.specs.Counters.{Counted, counted-none, counted-few, counted-more, counted-above, counted-within}
+use Rattle.vote.proofs.lead_above.Statement.{statement}
+use Rattle.vote.proofs.lead_above.Tie as tie
 
 abbrev Inv-loop : tie.InvT-loop
 Inv-loop es bound counters₀ i₀ counters i = (i ≤ length es) × Counted bound es i counters
@@ -32,11 +27,13 @@ array-read-c c = omega (arith, c .shared-slice-known .given (c .before .before .
 add-c : tie.Need-add-c Inv-loop μ-loop
 add-c c = let b = c .before .before in omega (arith, counted-few (b .before .args .bound) (b .before .args .es .now) (b .loop .i) (b .loop .counters) (b .loop .inv .1) (getD (b .before .args .es .now) (b .loop .i) 0))
 
-array-write-counters : tie.Need-array-write-counters Inv-loop μ-loop
-array-write-counters c = omega (arith, c .shared-slice-known .given (c .before .before .loop .i))
-
 returns : tie.Need-returns Inv-loop μ-loop
-returns c = λ e v n. let z : _≡_ {A = ℕ} 0 1 = cc in omega arith
+returns c =
+    let b = c .before .before .before in
+    let x = b .before .args in counted-above (x .bound) (x .es .now) (b .loop .i) (b .loop .counters) (b .loop .inv .1) (omega arith) (omega arith)
+
+array-write-counters : tie.Need-array-write-counters Inv-loop μ-loop
+array-write-counters c = omega (arith, c .before .shared-slice-known .given (c .before .before .before .loop .i))
 
 add-i : tie.Need-add-i Inv-loop μ-loop
 add-i c = omega arith
@@ -49,18 +46,16 @@ loop-again c =
     let b = c .before .before .before in
     let x = b .before .args in (
       omega arith,
-      counted-more (x .bound) (x .es .now) (b .loop .i) (b .loop .counters) (b .loop .inv .1) (omega arith) (omega (arith, c .before .shared-slice-known .given (b .loop .i)))
-          (λ z. ⊎-elim (λ w. omega arith) (λ w. omega arith) (c .if1 .came)),
+      counted-more (x .bound) (x .es .now) (b .loop .i) (b .loop .counters) (b .loop .inv .1) (omega arith) (omega (arith, c .before .shared-slice-known .given (b .loop .i))) (omega arith),
     )
 
 returns-2 : tie.Need-returns-2 Inv-loop μ-loop
-returns-2 c = λ e v n.
+returns-2 c =
     let b = c .before in
-    let es : List ℕ = b .before .args .es .now in
-    omega (arith, b .loop .inv .1 .bounded v n, ap (λ (l : List ℕ). count v l) (take-all (b .loop .i) es (omega arith)))
+    let x = b .before .args in counted-within (x .bound) (x .es .now) (b .loop .i) (b .loop .counters) (b .loop .inv .1) (omega arith)
 
-pub may-change-spec : {M : Type 1} → statement M
-may-change-spec =
+pub lead-above-spec : {M : Type 1} → statement M
+lead-above-spec =
     tie.close
     (tie.spec
     Inv-loop
@@ -70,8 +65,8 @@ may-change-spec =
     cast-e
     array-read-c
     add-c
-    array-write-counters
     returns
+    array-write-counters
     add-i
     loop-less
     loop-again
