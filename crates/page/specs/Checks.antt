@@ -7,41 +7,63 @@ use native.Mathlib.Omega.{arith}
 use borrow.Rule.Slice.PartMut.{putMid, post-is}
 use lib.ListN.{length, getD, take, drop, length-append, length-drop}
 use lib.Seq.{take-all, take-at, drop-length, getD-drop, length-take-le}
-use Rattle.model.specs.Symbols.{add, sub, Below, sumOver, tabulate, subEach}
+use Rattle.model.specs.Symbols.{add, sub, Below, sumOver, tabulate, addEach, subEach}
 use Rattle.model.specs.Code.{codeOf, checkSumBy, checkSymbol, checkSymbols, syndrome}
 use Rattle.theory.specs.Distance.{length-tabulate, getD-tabulate, tabulate-ext, below-tabulate}
 use Rattle.theory.specs.Turns.{sumOver-turn}
+use Rattle.rows.specs.Rows.{row, row-at, each-is}
 
 -- the checks by a list of positions
-unfoldable pub checksFrom : ℕ → ℕ → List ℕ → List ℕ → List ℕ
-checksFrom q k ps u = tabulate k (λ i. checkSumBy k ps u i % q)
+unfoldable pub checksFrom : ℕ → List ℕ → List ℕ → List ℕ
+checksFrom q ps u = tabulate (length u) (λ i. checkSumBy (length u) ps u i % q)
 
-pub checks-none : (q k : ℕ) → zero < q → (ps u : List ℕ) → tabulate k (λ i. 0) ≡ checksFrom q k (take 0 ps) u
-unfolding checksFrom checkSumBy sumOver
-checks-none q k pos ps u = tabulate-ext k (λ i. 0) (λ i. 0 % q) (λ i h. sym (mod-eq-of-lt pos))
+length-checks : (q : ℕ) (ps u : List ℕ) → length (checksFrom q ps u) ≡ length u
+unfolding checksFrom
+length-checks q ps u = length-tabulate (length u) (λ i. checkSumBy (length u) ps u i % q)
 
--- one position more
-pub checks-turn : (q k : ℕ) (ps u : List ℕ) (n : ℕ) → n < length ps
-    → tabulate k (λ i. add q (getD (checksFrom q k (take n ps) u) i 0) (getD u (sub k i (getD ps n 0)) 0)) ≡ checksFrom q k (take (n + 1) ps) u
+-- by the first position alone they are its row
+pub checks-first : (q : ℕ) → zero < q → (ps u : List ℕ) → 0 < length ps → Below q u → row (getD ps 0 0) u ≡ checksFrom q (take 1 ps) u
+unfolding checksFrom checkSumBy sumOver row
+checks-first q pos [] u h low = absurd (omega arith)
+checks-first q pos (p ∷ ps) u h low =
+    let k : ℕ = length u in
+    tabulate-ext k _ (λ i. (getD u (sub k i p) 0 + 0) % q)
+    (λ i l. sym (mod-eq-of-lt (low (sub k i p))) ∙ ap (λ (s : ℕ). s % q) (let z : getD u (sub k i p) 0 ≡ getD u (sub k i p) 0 + 0 = omega arith in z))
+
+-- the row of one position more
+pub checks-turn : (q : ℕ) (ps u : List ℕ) (n : ℕ) → n < length ps → addEach q (checksFrom q (take n ps) u) (row (getD ps n 0) u) ≡ checksFrom q (take (n + 1) ps) u
 unfolding checksFrom checkSumBy add
-checks-turn q k ps u n h =
-    tabulate-ext k (λ i. add q (getD (checksFrom q k (take n ps) u) i 0) (getD u (sub k i (getD ps n 0)) 0)) (λ i. checkSumBy k (take (n + 1) ps) u i % q)
-    (λ i l. ap (λ (s : ℕ). (s + getD u (sub k i (getD ps n 0)) 0) % q) (getD-tabulate k (λ o. checkSumBy k (take n ps) u o % q) i l)
+checks-turn q ps u n h =
+    let k : ℕ = length u in
+    let sums : ℕ → ℕ = λ o. checkSumBy k (take n ps) u o % q in
+    each-is q k (checksFrom q (take n ps) u) (row (getD ps n 0) u) (λ i. checkSumBy k (take (n + 1) ps) u i % q) (length-checks q (take n ps) u)
+    (λ i l. ap (λ (s : ℕ). (s + getD (row (getD ps n 0) u) i 0) % q) (getD-tabulate k sums i l)
+    ∙ ap (λ (x : ℕ). (sums i + x) % q) (row-at (getD ps n 0) u i l)
     ∙ mod-add-mod (checkSumBy k (take n ps) u i) q (getD u (sub k i (getD ps n 0)) 0)
     ∙ ap (λ (s : ℕ). s % q) (sym (sumOver-turn ps (λ p. getD u (sub k i p) 0) n h)))
 
+-- the rows of two positions more
+pub checks-two : (q : ℕ) (ps u : List ℕ) (n : ℕ) → n + 1 < length ps
+    → addEach q (addEach q (checksFrom q (take n ps) u) (row (getD ps n 0) u)) (row (getD ps (n + 1) 0) u) ≡ checksFrom q (take (n + 2) ps) u
+checks-two q ps u n h =
+    ap (λ (l : List ℕ). addEach q l (row (getD ps (n + 1) 0) u)) (checks-turn q ps u n (omega arith))
+    ∙ checks-turn q ps u (n + 1) h ∙ ap (λ (m : ℕ). checksFrom q (take m ps) u) (let z : n + 1 + 1 ≡ n + 2 = omega arith in z)
+
 -- all positions
-pub checks-all : (q k : ℕ) (ps u : List ℕ) (n : ℕ) → length ps ≤ n → checksFrom q k (take n ps) u ≡ checkSymbols (codeOf q k ps) u
+pub checks-all : (q : ℕ) (ps u : List ℕ) (n : ℕ) → length ps ≤ n → checksFrom q (take n ps) u ≡ checkSymbols (codeOf q (length u) ps) u
 unfolding checksFrom checkSymbols checkSymbol
-checks-all q k ps u n h = ap (λ (l : List ℕ). tabulate k (λ i. checkSumBy k l u i % q)) (take-all n ps h)
+checks-all q ps u n h = ap (λ (l : List ℕ). tabulate (length u) (λ i. checkSumBy (length u) l u i % q)) (take-all n ps h)
 
-pub checks-below : (q k : ℕ) → zero < q → (ps u : List ℕ) → Below q (checksFrom q k ps u)
+checks-below : (q : ℕ) → zero < q → (ps u : List ℕ) → Below q (checksFrom q ps u)
 unfolding checksFrom
-checks-below q k pos ps u = below-tabulate q pos k (λ i. checkSumBy k ps u i % q) (λ i. mod-lt (checkSumBy k ps u i) pos)
+checks-below q pos ps u = below-tabulate q pos (length u) (λ i. checkSumBy (length u) ps u i % q) (λ i. mod-lt (checkSumBy (length u) ps u i) pos)
 
-pub length-checks : (q k : ℕ) (ps u : List ℕ) → length (checksFrom q k ps u) ≡ k
-unfolding checksFrom
-length-checks q k ps u = length-tabulate k (λ i. checkSumBy k ps u i % q)
+-- what a row is added to
+pub addable : (q : ℕ) → zero < q → (ps u cs : List ℕ) → cs ≡ checksFrom q ps u → (length cs ≡ length u) × Below q cs
+addable q pos ps u cs e = rw e (length-checks q ps u, checks-below q pos ps u)
+
+pub one-length : (q : ℕ) (ps rs u cs ds : List ℕ) → cs ≡ checksFrom q ps u → ds ≡ checksFrom q rs u → length cs ≡ length ds
+one-length q ps rs u cs ds d e = rw (d, e) (length-checks q ps u ∙ sym (length-checks q rs u))
 
 -- the page that holds v at its front, with cs written from the end of v on
 pub front-written : (u v rest cs ds : List ℕ) → v ≡ u → cs ≡ ds

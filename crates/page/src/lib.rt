@@ -3,12 +3,13 @@ ghost use mathlib.Core.Path.{_≡_};
 ghost use mathlib.Core.Bool.{_&&_};
 ghost use Prim.Native.Nat.{_+_};
 ghost use lib.Dec.{eqb};
-ghost use lib.ListN.{length};
-ghost use Rattle.model.specs.Symbols.{Below, tabulate};
+ghost use lib.ListN.{length, take};
+ghost use Rattle.model.specs.Symbols.{Below};
 ghost use Rattle.model.specs.Code.{codeOf, checkSymbols, codeWord, syndrome};
 ghost use Rattle.model.specs.Calls.{firstThatApplies, pageTests, encodeOutcome, syndromeOutcome};
 ghost use Rattle.model.specs.Demand.{Encodes};
 ghost use Rattle.theory.specs.Answers.{Limits};
+ghost use Rattle.page.specs.Checks.{checksFrom};
 
 // Two lengths are as a call needs them.
 pub fn two_fit(a: usize, m: usize, b: usize, n: usize) -> bool
@@ -37,27 +38,33 @@ pub fn page_answer(q: u32, k: u32, positions: &[u16], fits: bool, input: &[u8]) 
     0
 }
 
-// The check symbols of the data, from checks that are all 0: each position adds the data turned by it.
+// The check symbols of the data, from those by the first position alone: the rows of the others are added, two at a time.
 fn add_checks(q: u32, positions: &[u16], data: &[u8], checks: &mut [u8])
     requires { ⌜ Limits (codeOf q (length (now «data»)) (now positions))
         × Below q (now «data»)
-        × (now checks ≡ tabulate (length (now «data»)) (λ i. 0)) ⌝ }
+        × (now checks ≡ checksFrom q (take 1 (now positions)) (now «data»)) ⌝ }
     ensures { λ _. ⌜ now (checks .exit) ≡ checkSymbols (codeOf q (length (now («data» .entry))) (now (positions .entry))) (now («data» .entry)) ⌝ }
 {
-    let mut n = 0;
-    while n < positions.len() {
+    let mut n = 1;
+    while n + 1 < positions.len() {
         let p = positions[n] as usize;
-        symbols::add_rotated(q, p, checks, data);
-        n += 1;
+        let r = positions[n + 1] as usize;
+        rows::add_two_rows(q, p, r, checks, data);
+        n += 2;
+    }
+    if n < positions.len() {
+        let p = positions[n] as usize;
+        rows::add_row(q, p, checks, data);
     }
 }
 
-// The check symbols of the data.
+// The check symbols of the data. By the first position alone they are its row.
 fn write_checks(q: u32, positions: &[u16], data: &[u8], checks: &mut [u8])
     requires { ⌜ Limits (codeOf q (length (now «data»)) (now positions)) × Below q (now «data») × (length (now checks) ≡ length (now «data»)) ⌝ }
     ensures { λ _. ⌜ now (checks .exit) ≡ checkSymbols (codeOf q (length (now («data» .entry))) (now (positions .entry))) (now («data» .entry)) ⌝ }
 {
-    symbols::clear(checks);
+    let first = positions[0] as usize;
+    rows::copy_row(first, checks, data);
     add_checks(q, positions, data, checks);
 }
 

@@ -2,4 +2,3 @@
 pub mod Sums
 pub mod Written
 pub mod Scans
-pub mod Rotation

@@ -1,12 +1,19 @@
--- A sum modulo q by its two cases: it stays below q, or q is taken off once.
+-- Sums modulo q: one sum by its two cases, it stays below q or q is taken off once; two lists added in one run.
 use mathlib.Core.Path.{_≡_, _∙_, sym, ap}
+use mathlib.Core.List.{List}
 use Prim.Native.Nat.{ℕ, _+_, _-_, _%_, _≤_, _<_}
 use native.Mathlib.Nat.{mod-lt, mod-eq-of-lt, add-mod-right, add-mod-mod}
 use native.Mathlib.Decide.{decLe}
 use native.Mathlib.Omega.{arith}
 use lib.Dec.{lit<}
-use Rattle.model.specs.Symbols.{add}
+use lib.ListN.{length, getD}
+use Rattle.model.specs.Symbols.{add, tabulate, addEach}
+use Rattle.theory.specs.Distance.{length-tabulate, getD-tabulate, tabulate-ext}
 use Rattle.theory.specs.Modulo.{by-eq, cong-cancel}
+
+pub add-lt : (q a b : ℕ) → 0 < q → add q a b < q
+unfolding add
+add-lt q a b pos = mod-lt (a + b) pos
 
 pub add-below : (q a b : ℕ) → a + b < q → add q a b ≡ a + b
 unfolding add
@@ -32,3 +39,12 @@ byte-sum top a b r c s ht ha hb hr e f yes-c no-c = elim (decLe a (top - b)) as 
       (f ∙ e ∙ by-eq 256 {x = a + b} {y = m + (top + 1)} (omega arith) ∙ sym (add-mod-mod m (top + 1) 256) ∙ ap (λ (x : ℕ). (m + x) % 256) (sym z))
       ∙ mod-eq-of-lt (omega arith) ∙ sym (add-above (top + 1) a b (omega arith) (omega arith) (omega arith))
 ]
+
+-- two lists added in one run are the one added and then the other
+pub add-twice : (q : ℕ) (acc xs ys : List ℕ)
+    → tabulate (length acc) (λ i. add q (add q (getD acc i 0) (getD xs i 0)) (getD ys i 0)) ≡ addEach q (addEach q acc xs) ys
+unfolding addEach
+add-twice q acc xs ys =
+    let f : ℕ → ℕ = λ i. add q (getD acc i 0) (getD xs i 0) in
+    sym (ap (λ (n : ℕ). tabulate n (λ i. add q (getD (tabulate (length acc) f) i 0) (getD ys i 0))) (length-tabulate (length acc) f)
+    ∙ tabulate-ext (length acc) _ _ (λ i l. ap (λ (x : ℕ). add q x (getD ys i 0)) (getD-tabulate (length acc) f i l)))

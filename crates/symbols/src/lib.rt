@@ -1,7 +1,7 @@
 // Sums and differences of symbols modulo q, on single symbols and on whole slices; the range test; the weight.
 ghost use mathlib.Core.Path.{_≡_};
 ghost use Prim.Native.Nat.{_+_, _%_, _<_, _≤_, max};
-ghost use lib.ListN.{length, getD};
+ghost use lib.ListN.{length};
 ghost use Rattle.model.specs.Calls.{allBelow};
 ghost use Rattle.model.specs.Symbols.{add, sub, differ, weight, Below, tabulate, addEach, subEach};
 ghost use Rattle.symbols.specs.Scans.{highest};
@@ -60,6 +60,17 @@ fn add_bytes(acc: &mut [u8], src: &[u8])
     }
 }
 
+fn add_two_bytes(acc: &mut [u8], xs: &[u8], ys: &[u8])
+    requires { ⌜ (length (now acc) ≡ length (now xs)) × (length (now acc) ≡ length (now ys)) ⌝ }
+    ensures { λ _. ⌜ now (acc .exit) ≡ addEach 256 (addEach 256 (now (acc .entry)) (now (xs .entry))) (now (ys .entry)) ⌝ }
+{
+    let mut i = 0;
+    while i < acc.len() {
+        acc[i] = add_byte(add_byte(acc[i], xs[i]), ys[i]);
+        i += 1;
+    }
+}
+
 fn sub_bytes(acc: &mut [u8], src: &[u8])
     requires { ⌜ length (now acc) ≡ length (now src) ⌝ }
     ensures { λ _. ⌜ now (acc .exit) ≡ subEach 256 (now (acc .entry)) (now (src .entry)) ⌝ }
@@ -79,6 +90,21 @@ fn add_symbols(top: u8, acc: &mut [u8], src: &[u8])
     let mut i = 0;
     while i < acc.len() {
         acc[i] = add_mod(top, acc[i], src[i]);
+        i += 1;
+    }
+}
+
+fn add_two_symbols(top: u8, acc: &mut [u8], xs: &[u8], ys: &[u8])
+    requires { ⌜ (length (now acc) ≡ length (now xs))
+        × (length (now acc) ≡ length (now ys))
+        × Below (top + 1) (now acc)
+        × Below (top + 1) (now xs)
+        × Below (top + 1) (now ys) ⌝ }
+    ensures { λ _. ⌜ now (acc .exit) ≡ addEach (top + 1) (addEach (top + 1) (now (acc .entry)) (now (xs .entry))) (now (ys .entry)) ⌝ }
+{
+    let mut i = 0;
+    while i < acc.len() {
+        acc[i] = add_mod(top, add_mod(top, acc[i], xs[i]), ys[i]);
         i += 1;
     }
 }
@@ -106,6 +132,24 @@ pub fn add_into(q: u32, acc: &mut [u8], src: &[u8])
     }
 }
 
+// xs and ys added to acc, symbol by symbol, in one run.
+pub fn add_two_into(q: u32, acc: &mut [u8], xs: &[u8], ys: &[u8])
+    requires { ⌜ (2 ≤ q)
+        × (q ≤ 256)
+        × (length (now acc) ≡ length (now xs))
+        × (length (now acc) ≡ length (now ys))
+        × Below q (now acc)
+        × Below q (now xs)
+        × Below q (now ys) ⌝ }
+    ensures { λ _. ⌜ now (acc .exit) ≡ addEach q (addEach q (now (acc .entry)) (now (xs .entry))) (now (ys .entry)) ⌝ }
+{
+    if q == 256 {
+        add_two_bytes(acc, xs, ys);
+    } else {
+        add_two_symbols((q - 1) as u8, acc, xs, ys);
+    }
+}
+
 // src subtracted from acc, symbol by symbol.
 pub fn sub_into(q: u32, acc: &mut [u8], src: &[u8])
     requires { ⌜ (2 ≤ q) × (q ≤ 256) × (length (now acc) ≡ length (now src)) × Below q (now acc) × Below q (now src) ⌝ }
@@ -116,17 +160,6 @@ pub fn sub_into(q: u32, acc: &mut [u8], src: &[u8])
     } else {
         sub_symbols((q - 1) as u8, acc, src);
     }
-}
-
-// src turned by p places and added to acc, in two straight runs: check i gets data symbol (i − p) mod k.
-pub fn add_rotated(q: u32, p: usize, acc: &mut [u8], src: &[u8])
-    requires { ⌜ (2 ≤ q) × (q ≤ 256) × (length (now acc) ≡ length (now src)) × (p < length (now src)) × Below q (now acc) × Below q (now src) ⌝ }
-    ensures { λ _. ⌜ now (acc .exit)
-        ≡ tabulate (length (now (src .entry))) (λ i. add q (getD (now (acc .entry)) i 0) (getD (now (src .entry)) (sub (length (now (src .entry))) i p) 0)) ⌝ }
-{
-    let rest = src.len() - p;
-    add_into(q, &mut acc[p..], &src[..rest]);
-    add_into(q, &mut acc[..p], &src[rest..]);
 }
 
 // The larger of two symbols.

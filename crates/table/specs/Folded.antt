@@ -17,9 +17,9 @@ use Rattle.model.specs.Symbols.{choose, sub, same, count, sumOver}
 use Rattle.theory.specs.Circulant.{pairCount, same-iff, once-cross}
 use Rattle.theory.specs.Counting.{is-true, same-yes, same-no, same-le, sumOver-add, All, all-at}
 use Rattle.theory.specs.Modulo.{sub-self, sub-no-borrow, sub-borrow}
-use Rattle.theory.specs.Tables.{count-append, rising-facts, accepted-table, refused-table}
+use Rattle.theory.specs.Tables.{count-append, fit-cons, rising-facts, accepted-table, refused-table}
 use Rattle.table.specs.Marks.{Marks, marksOf, mark, mark-append, mark-none, fresh-once, same-truth}
-use Rattle.table.specs.Table.{fit-cons, fit-above}
+use Rattle.table.specs.Table.{fit-above}
 
 -- of a difference d and its opposite the smaller
 abbrev pub fold : ℕ → ℕ → ℕ

@@ -1,19 +1,19 @@
 -- Laws of the table check's tests.
-use mathlib.Core.Path.{_≡_, refl, sym, _∙_, subst}
+use mathlib.Core.Path.{_≡_, refl, sym, _∙_}
 use mathlib.Core.Bool.{Bool, true, false, not, _&&_}
 use mathlib.Core.List.{List, [], _∷_}
 use Prim.Native.Nat.{ℕ, zero, suc, _+_, _≤_, _<_}
 use native.Mathlib.Numerals.{add-one}
 use native.Mathlib.Omega.{arith}
-use lib.Dec.{T, ltb, leb, ltb→lt, leb→le}
+use lib.Dec.{ltb, leb}
 use lib.ListN.{length, getD, drop, drop-of-length-le}
 use lib.Seq.{drop-cons}
 use Rattle.model.specs.Calls.{test, firstThatApplies, positionsFit, codeTests, tableTests, tableAnswer}
 use Rattle.model.specs.Code.{Code, codeOf, selfOrthogonal, differencesBy, differences, allDifferent}
 use Rattle.model.specs.Symbols.{choose}
 use Rattle.theory.specs.Answers.{within-make}
-use Rattle.theory.specs.Counting.{is-true, All}
-use Rattle.theory.specs.Tables.{and-split, orthogonal-test, orthogonal-differences}
+use Rattle.theory.specs.Counting.{All}
+use Rattle.theory.specs.Tables.{fit-cons, orthogonal-test, orthogonal-differences}
 use Rattle.table.specs.Marks.{same-truth}
 
 -- q, k and J are within their limits
@@ -49,13 +49,6 @@ unfolding positionsFit
 fit-end k least ps i h = rw (drop-of-length-le ps h)
 
 -- ---- what positions that pass are
-
-pub fit-cons : (k least p : ℕ) (ps : List ℕ) → positionsFit k least (p ∷ ps) ≡ true → (least ≤ p) × (p < k) × (positionsFit k (suc p) ps ≡ true)
-unfolding positionsFit
-fit-cons k least p ps t =
-    let s = and-split (ltb p k) (leb least p && positionsFit k (suc p) ps) (subst T (sym t) tt) in
-    let r = and-split (leb least p) (positionsFit k (suc p) ps) (s .1) in
-    (leb→le least p (r .0), ltb→lt p k (s .0), is-true (positionsFit k (suc p) ps) (r .1))
 
 -- from `least`, and so from `low`, to k
 pub fit-above : (k low least : ℕ) → low ≤ least → (ps : List ℕ) → positionsFit k least ps ≡ true → All (λ a. (low ≤ a) × (a < k)) ps

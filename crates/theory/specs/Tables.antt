@@ -7,6 +7,7 @@ use Prim.Native.Nat.{ℕ, zero, suc, _+_, _≤_, _<_}
 use native.Mathlib.Decide.{ℕ-discrete, decLe}
 use native.Mathlib.Omega.{arith}
 use lib.Dec.{T, eqb, ltb, leb, eqb→eq, ltb→lt, leb→le, le→leb}
+use lib.ListN.{length, getD}
 use Rattle.model.specs.Calls.{positionsFit}
 use Rattle.model.specs.Code.{Code, checksBy, shared, SelfOrthogonal, everyBelow, selfOrthogonal, differencesFrom, differencesBy, differences, allDifferent}
 use Rattle.model.specs.Symbols.{sub, same, count, sumOver}
@@ -76,16 +77,27 @@ unfolding differencesBy
 differences-zero k pos [] rs h g = count-nil _
 differences-zero k pos (a ∷ ps) rs h g = omega (arith, count-append 0 (differencesFrom k a rs) (differencesBy k ps rs), differencesFrom-zero k pos a (h .0) rs g, differences-zero k pos ps rs (h .1) g)
 
-pub rising-facts : (k b : ℕ) (ps : List ℕ) → positionsFit k b ps ≡ true → All (λ p. p < k) ps × Distinct ps × ((v : ℕ) → v < b → count v ps ≡ 0)
+-- positions that pass: the first, and the others from it on
+pub fit-cons : (k least p : ℕ) (ps : List ℕ) → positionsFit k least (p ∷ ps) ≡ true → (least ≤ p) × (p < k) × (positionsFit k (suc p) ps ≡ true)
 unfolding positionsFit
+fit-cons k least p ps t =
+    let s = and-split (ltb p k) (leb least p && positionsFit k (suc p) ps) (subst T (sym t) tt) in
+    let r = and-split (leb least p) (positionsFit k (suc p) ps) (s .1) in
+    (leb→le least p (r .0), ltb→lt p k (s .0), is-true (positionsFit k (suc p) ps) (r .1))
+
+pub rising-facts : (k b : ℕ) (ps : List ℕ) → positionsFit k b ps ≡ true → All (λ p. p < k) ps × Distinct ps × ((v : ℕ) → v < b → count v ps ≡ 0)
 rising-facts k b [] t = (tt, tt, λ v h. count-nil _)
 rising-facts k b (p ∷ ps) t =
-    let s = and-split (ltb p k) (leb b p && positionsFit k (suc p) ps) (subst T (sym t) tt) in
-    let r = and-split (leb b p) (positionsFit k (suc p) ps) (s .1) in
-    let low : p < k = ltb→lt p k (s .0) in
-    let up : b ≤ p = leb→le b p (r .0) in
-    let ih = rising-facts k (suc p) ps (is-true (positionsFit k (suc p) ps) (r .1)) in
-    ((low, ih .0), (ih .2 p (omega arith), ih .1), λ v h. omega (arith, count-cons v p ps, same-no v p (omega arith), ih .2 v (omega arith)))
+    let f = fit-cons k b p ps t in
+    let ih = rising-facts k (suc p) ps (f .2) in
+    ((f .1, ih .0), (ih .2 p (omega arith), ih .1), λ v h. omega (arith, f .0, count-cons v p ps, same-no v p (omega (arith, f .0)), ih .2 v (omega (arith, f .0))))
+
+-- each position is below the next
+pub rising-next : (k b : ℕ) (ps : List ℕ) → positionsFit k b ps ≡ true → (n : ℕ) → suc n < length ps → getD ps n 0 < getD ps (suc n) 0
+rising-next k b [] t n h = absurd (omega arith)
+rising-next k b (p ∷ []) t n h = absurd (omega arith)
+rising-next k b (p ∷ (r ∷ ps)) t zero h = fit-cons k (suc p) r ps (fit-cons k b p (r ∷ ps) t .2) .0
+rising-next k b (p ∷ (r ∷ ps)) t (suc n) h = rising-next k (suc p) (r ∷ ps) (fit-cons k b p (r ∷ ps) t .2) n (omega arith)
 
 -- an accepted table is self-orthogonal
 pub accepted-table : (k : ℕ) → zero < k → (ps : List ℕ) → positionsFit k 0 ps ≡ true → T (allDifferent (differencesBy k ps ps)) → TableLaws k ps

@@ -1,13 +1,13 @@
--- `symbols::add_rotated` meets its contract. Assumes nothing.
+-- `rows::add_row` meets its contract.
 use mathlib.Core.Path.{sym, _∙_}
 use Prim.Native.Nat.{ℕ, _-_}
 use native.Mathlib.Omega.{arith}
 use lib.ListN.{length, length-take, length-drop}
 use Rattle.theory.specs.Parts.{below-part, lead-length, lead-below}
-use Rattle.symbols.specs.Rotation.{runs}
+use Rattle.rows.specs.Rows.{added-row}
 use borrow.Author.Needs.{needs}
-use Rattle.symbols.proofs.add_rotated.Statement.{statement}
-use Rattle.symbols.proofs.add_rotated.Tie as tie
+use Rattle.rows.proofs.add_row.Statement.{statement}
+use Rattle.rows.proofs.add_row.Tie as tie
 
 sub-rest : tie.Need-sub-rest
 sub-rest c = search needs
@@ -73,10 +73,10 @@ returns c =
     let a = c .before .before .before .before .before .before .before .before .before .before .before .before .args in
     let first = c .before .before .before .before .before .before .before .add-into in
     let second = c .before .before .add-into2 in
-    runs (a .q) (a .p) (a .acc .now) (a .src .now) (omega arith) (omega arith) (first .last .1 .0) (second .last .1 .0) (first .ensures) (second .ensures)
+    added-row (a .p) (a .acc .now) (a .src .now) (omega arith) (omega arith) (a .q) (first .last .1 .0) (second .last .1 .0) (first .ensures) (second .ensures)
 
-pub add-rotated-spec : {M : Type 1} → statement M
-add-rotated-spec =
+pub add-row-spec : {M : Type 1} → statement M
+add-row-spec =
     tie.close
     (tie.spec
     sub-rest

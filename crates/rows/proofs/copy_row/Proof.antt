@@ -1,0 +1,79 @@
+-- `rows::copy_row` meets its contract.
+use mathlib.Core.Path.{sym, _∙_}
+use Prim.Native.Nat.{ℕ, _-_}
+use native.Mathlib.Omega.{arith}
+use lib.ListN.{length, length-take, length-drop}
+use Rattle.theory.specs.Parts.{lead-length}
+use Rattle.rows.specs.Rows.{copied-row}
+use borrow.Author.Needs.{needs}
+use Rattle.rows.proofs.copy_row.Statement.{statement}
+use Rattle.rows.proofs.copy_row.Tie as tie
+
+sub-rest : tie.Need-sub-rest
+sub-rest c = search needs
+
+sub-copy-into : tie.Need-sub-copy-into
+sub-copy-into c = search needs
+
+part-copy-into-start : tie.Need-part-copy-into-start
+part-copy-into-start c = search needs
+
+part-copy-into-end : tie.Need-part-copy-into-end
+part-copy-into-end c = search needs
+
+slice-aggregate-copy-into : tie.Need-slice-aggregate-copy-into
+slice-aggregate-copy-into c = simp length-take (omega arith)
+
+copy-into-requires : tie.Need-copy-into-requires
+copy-into-requires c κs = simp (length-take, length-drop) (omega arith)
+
+slice-relend-prefix-copy-into : tie.Need-slice-relend-prefix-copy-into
+slice-relend-prefix-copy-into c = search needs
+
+slice-aggregate-copy-into-2 : tie.Need-slice-aggregate-copy-into-2
+slice-aggregate-copy-into-2 c =
+    let a = c .before .before .before .before .before .before .before .before .args in
+    sym (lead-length (a .p) (a .dst .now) (omega arith) (c .before .before .before .copy-into .last .0))
+
+sub-copy-into-2 : tie.Need-sub-copy-into-2
+sub-copy-into-2 c = search needs
+
+part-copy-into-start-2 : tie.Need-part-copy-into-start-2
+part-copy-into-start-2 c = search needs
+
+part-copy-into-end-2 : tie.Need-part-copy-into-end-2
+part-copy-into-end-2 c = search needs
+
+copy-into-requires-2 : tie.Need-copy-into-requires-2
+copy-into-requires-2 c κs =
+    let a = c .before .before .before .before .before .before .before .before .before .args in
+    lead-length (a .p) (a .dst .now) (omega arith) (c .before .before .before .before .copy-into .last .0) ∙ simp (length-take, length-drop) (omega arith)
+
+same-length : tie.Need-same-length
+same-length c = search needs
+
+returns : tie.Need-returns
+returns c =
+    let a = c .before .before .before .before .before .before .before .before .before .before .before .before .args in
+    let first = c .before .before .before .before .before .before .before .copy-into in
+    let second = c .before .before .copy-into2 in
+    copied-row (a .p) (a .dst .now) (a .src .now) (omega arith) (omega arith) (first .last .0) (second .last .0) (first .ensures) (second .ensures)
+
+pub copy-row-spec : {M : Type 1} → statement M
+copy-row-spec =
+    tie.close
+    (tie.spec
+    sub-rest
+    sub-copy-into
+    part-copy-into-start
+    part-copy-into-end
+    slice-aggregate-copy-into
+    copy-into-requires
+    slice-relend-prefix-copy-into
+    slice-aggregate-copy-into-2
+    sub-copy-into-2
+    part-copy-into-start-2
+    part-copy-into-end-2
+    copy-into-requires-2
+    same-length
+    returns)

@@ -1,0 +1,2 @@
+-- Laws for the rows.
+pub mod Rows
