@@ -2,7 +2,7 @@
 use mathlib.Core.Path.{_≡_, refl, sym, ap, _∙_}
 use mathlib.Core.List.{List, [], _∷_, _++_}
 use Prim.Native.Nat.{ℕ, _+_, _-_, _%_, _<_, _≤_}
-use native.Mathlib.Nat.{mod-eq-of-lt, mod-eq-sub-mod, mod-lt}
+use native.Mathlib.Nat.{mod-lt}
 use native.Mathlib.Numerals.{add-one}
 use native.Mathlib.Omega.{arith}
 use lib.ListN.{length, getD, set, take}
@@ -20,10 +20,6 @@ pub record AtChecks (k : ℕ) (ps : List ℕ) (j : ℕ) (s : List ℕ) : Type 0 
   pub len : length s ≡ k
   pub few : length ps ≤ 32
   pub below : (i : ℕ) → i < length ps → getD ps i 0 < k
-
--- a check's number without a remainder: where the sum is k or more, k less
-pub index-wraps : (k j p : ℕ) → j < k → p < k → k ≤ j + p → (j + p) % k ≡ j + p - k
-index-wraps k j p hj hp h = mod-eq-sub-mod h ∙ mod-eq-of-lt (omega arith)
 
 module _ {k : ℕ} {ps : List ℕ} {j : ℕ} {s : List ℕ} (fits : AtChecks k ps j s) where
   -- each check stands in the syndrome

@@ -148,13 +148,12 @@ pub fn lead_above(es: &[u8], bound: u8) -> bool
     false
 }
 
-// The check of data symbol j by position p.
-fn check_index(k: usize, j: usize, p: u16) -> usize
-    requires { ⌜ (j < k) × (p < k) × (k ≤ 4096) ⌝ }
-    ensures { λ r. ⌜ r ≡ (j + p) % k ⌝ }
+// a modulo k, by one comparison. The check of data symbol j by position p is j + p modulo k.
+pub fn wrapped(k: usize, a: usize) -> usize
+    requires { ⌜ a < k + k ⌝ }
+    ensures { λ r. ⌜ r ≡ a % k ⌝ }
 {
-    let i = j + (p as usize);
-    if i < k { i } else { i - k }
+    if a < k { a } else { a - k }
 }
 
 // The estimates of data symbol j: its own difference, and the syndrome at each of its checks.
@@ -165,7 +164,7 @@ pub fn gather(k: usize, positions: &[u16], j: usize, syndrome: &[u8], own: u8, e
     es[0] = own;
     let mut i = 0;
     while i < positions.len() {
-        let c = check_index(k, j, positions[i]);
+        let c = wrapped(k, j + (positions[i] as usize));
         i += 1;
         es[i] = syndrome[c];
     }

@@ -51,14 +51,6 @@ pub fn count_zeros(positions: &[u16], s: &[u8], zeros: &mut [u8])
     }
 }
 
-// a modulo k, by one comparison.
-fn wrapped(k: usize, a: usize) -> usize
-    requires { ⌜ a < k + k ⌝ }
-    ensures { λ r. ⌜ r ≡ a % k ⌝ }
-{
-    if a < k { a } else { a - k }
-}
-
 // v written at check c of the syndrome. Where that makes or ends a zero, the count of each data symbol (c − p) mod k in that check follows.
 fn write_check(k: usize, positions: &[u16], c: usize, v: u8, syndrome: &mut [u8], zeros: &mut [u8])
     requires { ⌜ AllChecks k (now positions) (now syndrome) × (c < k) × (now zeros ≡ zeroCounts k (now positions) (now syndrome)) ⌝ }
@@ -73,7 +65,7 @@ fn write_check(k: usize, positions: &[u16], c: usize, v: u8, syndrome: &mut [u8]
     }
     let mut i = 0;
     while i < positions.len() {
-        let x = wrapped(k, c + (k - (positions[i] as usize)));
+        let x = vote::wrapped(k, c + (k - (positions[i] as usize)));
         zeros[x] = zeros[x] + gained - lost;
         i += 1;
     }
@@ -98,7 +90,7 @@ pub fn subtract_checks(
 {
     let mut i = 0;
     while i < positions.len() {
-        let c = wrapped(k, j + (positions[i] as usize));
+        let c = vote::wrapped(k, j + (positions[i] as usize));
         let v = symbols::sub_mod(top, syndrome[c], h);
         write_check(k, positions, c, v, syndrome, zeros);
         i += 1;

@@ -26,14 +26,21 @@ loop-holds c =
     let a = c .before .before .before .args in
     (omega arith, length-set (a .es .now) 0 (a .own) ∙ c .before .before .before .pre .1, gather-none (a .syndrome .now) (a .k) (a .positions .now) (a .j) (a .own) (a .es .now) (omega arith))
 
-mul-check-index : tie.Need-mul-check-index Inv-loop μ-loop
-mul-check-index c = search needs
+mul-wrapped : tie.Need-mul-wrapped Inv-loop μ-loop
+mul-wrapped c = search needs
 
-shared-slice-read-check-index : tie.Need-shared-slice-read-check-index Inv-loop μ-loop
-shared-slice-read-check-index c = omega arith
+shared-slice-read-wrapped : tie.Need-shared-slice-read-wrapped Inv-loop μ-loop
+shared-slice-read-wrapped c = omega arith
 
-check-index-requires : tie.Need-check-index-requires Inv-loop μ-loop
-check-index-requires c κs =
+cast-wrapped : tie.Need-cast-wrapped Inv-loop μ-loop
+cast-wrapped c = omega (arith, c .shared-slice-known3 .given (c .before .before .loop .i))
+
+add-wrapped : tie.Need-add-wrapped Inv-loop μ-loop
+add-wrapped c =
+    let b = c .before .before in omega (arith, b .before .before .before .before .pre .0 .below (b .loop .i) (omega arith))
+
+wrapped-requires : tie.Need-wrapped-requires Inv-loop μ-loop
+wrapped-requires c κs =
     let b = c .before .before in omega (arith, b .before .before .before .before .pre .0 .below (b .loop .i) (omega arith))
 
 add-i : tie.Need-add-i Inv-loop μ-loop
@@ -41,7 +48,7 @@ add-i c = omega arith
 
 shared-slice-read-es : tie.Need-shared-slice-read-es Inv-loop μ-loop
 shared-slice-read-es c =
-    let b = c .before .before .before .before in omega (arith, check-inside (b .before .before .before .before .pre .0) (b .loop .i), c .before .check-index .ensures)
+    let b = c .before .before .before .before in omega (arith, check-inside (b .before .before .before .before .pre .0) (b .loop .i), c .before .wrapped .ensures)
 
 slice-write-es-2 : tie.Need-slice-write-es-2 Inv-loop μ-loop
 slice-write-es-2 c = omega arith
@@ -56,7 +63,7 @@ loop-again c =
     let es : List ℕ = b .loop .es in (
       omega arith,
       length-set es (b .loop .i + 1) _ ∙ b .loop .inv .1,
-      gather-turn (a .syndrome .now) (a .k) (a .positions .now) (a .j) (a .own) (b .loop .i) (c .before .check-index .result) es (omega arith) (omega arith) (c .before .check-index .ensures) (b .loop .inv .2),
+      gather-turn (a .syndrome .now) (a .k) (a .positions .now) (a .j) (a .own) (b .loop .i) (c .before .wrapped .result) es (omega arith) (omega arith) (c .before .wrapped .ensures) (b .loop .inv .2),
     )
 
 same-length : tie.Need-same-length Inv-loop μ-loop
@@ -77,9 +84,11 @@ gather-spec =
     μ-loop
     slice-write-es
     loop-holds
-    mul-check-index
-    shared-slice-read-check-index
-    check-index-requires
+    mul-wrapped
+    shared-slice-read-wrapped
+    cast-wrapped
+    add-wrapped
+    wrapped-requires
     add-i
     shared-slice-read-es
     slice-write-es-2
