@@ -8,7 +8,7 @@
  *   --rows FILTER   only the rows with FILTER in their name
  *   --count         makes each call of the rows to count once, for bench/count */
 #define _POSIX_C_SOURCE 199309L
-#include "qmtd.h"
+#include "calls.h"
 
 #include <stdio.h>
 #include <stdlib.h>
@@ -17,13 +17,11 @@
 
 /* ---- The implementations ---- */
 
-#define DECLARE(prefix)                                                                                                \
-    uint32_t prefix##check_table(uint32_t, uint32_t, const uint8_t *, size_t);                                         \
-    uint32_t prefix##encode(uint32_t, uint32_t, const uint8_t *, size_t, const uint8_t *, size_t, uint8_t *, size_t);  \
-    uint32_t prefix##syndrome(uint32_t, uint32_t, const uint8_t *, size_t, const uint8_t *, size_t, uint8_t *,         \
-                              size_t);                                                                                 \
-    uint32_t prefix##decode(uint32_t, uint32_t, const uint8_t *, size_t, const uint8_t *, size_t, const uint8_t *,     \
-                            size_t, uint8_t *, size_t, uint8_t *, size_t, uint8_t *, size_t, uint8_t *, size_t);
+#define DECLARE(prefix)                     \
+    check_table_call prefix##check_table;   \
+    encode_call prefix##encode;             \
+    syndrome_call prefix##syndrome;         \
+    decode_call prefix##decode;
 
 #define CALLS(title, prefix) {title, prefix##check_table, prefix##encode, prefix##syndrome, prefix##decode}
 
@@ -36,11 +34,10 @@ DECLARE(fast_clang_)
 
 struct implementation {
     const char *name;
-    uint32_t (*check_table)(uint32_t, uint32_t, const uint8_t *, size_t);
-    uint32_t (*encode)(uint32_t, uint32_t, const uint8_t *, size_t, const uint8_t *, size_t, uint8_t *, size_t);
-    uint32_t (*syndrome)(uint32_t, uint32_t, const uint8_t *, size_t, const uint8_t *, size_t, uint8_t *, size_t);
-    uint32_t (*decode)(uint32_t, uint32_t, const uint8_t *, size_t, const uint8_t *, size_t, const uint8_t *, size_t,
-                       uint8_t *, size_t, uint8_t *, size_t, uint8_t *, size_t, uint8_t *, size_t);
+    check_table_call *check_table;
+    encode_call *encode;
+    syndrome_call *syndrome;
+    decode_call *decode;
 };
 
 /* The library comes first: the others are compared with it. */

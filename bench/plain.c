@@ -1,7 +1,7 @@
 /* plain.c - the four calls in plain C, straight from the steps of document 01, as one would first write them.
  *
  * CALL(name) makes the names, plain_encode and so on; another prefix keeps the objects of two compilers apart. */
-#include "qmtd.h"
+#include "calls.h"
 
 #include <string.h>
 
@@ -9,15 +9,10 @@
 #define CALL(name) plain_##name
 #endif
 
-uint32_t CALL(check_table)(uint32_t q, uint32_t k, const uint8_t *table, size_t table_len);
-uint32_t CALL(encode)(uint32_t q, uint32_t k, const uint8_t *table, size_t table_len,
-                      const uint8_t *data, size_t data_len, uint8_t *page, size_t page_len);
-uint32_t CALL(syndrome)(uint32_t q, uint32_t k, const uint8_t *table, size_t table_len,
-                        const uint8_t *page, size_t page_len, uint8_t *syndrome, size_t syndrome_len);
-uint32_t CALL(decode)(uint32_t q, uint32_t k, const uint8_t *table, size_t table_len,
-                      const uint8_t *page, size_t page_len, const uint8_t *thresholds, size_t thresholds_len,
-                      uint8_t *result, size_t result_len, uint8_t *syndrome, size_t syndrome_len,
-                      uint8_t *difference, size_t difference_len, uint8_t *counts, size_t counts_len);
+check_table_call CALL(check_table);
+encode_call CALL(encode);
+syndrome_call CALL(syndrome);
+decode_call CALL(decode);
 
 static uint32_t position(const uint8_t *table, size_t a)
 {
