@@ -23,6 +23,10 @@ withRow q p s u i = add q (getD s i 0) (getD u (sub (length u) i p) 0)
 abbrev pub withTwoRows : ℕ → ℕ → ℕ → List ℕ → List ℕ → ℕ → ℕ
 withTwoRows q p r s u i = add q (withRow q p s u i) (getD u (sub (length u) i r) 0)
 
+-- u from a on and u from b on, added to s as far as s reaches
+unfoldable pub withTwoParts : ℕ → ℕ → ℕ → List ℕ → List ℕ → List ℕ
+withTwoParts q a b s u = tabulate (length s) (λ i. add q (add q (getD s i 0) (getD u (a + i) 0)) (getD u (b + i) 0))
+
 -- a list by its symbols
 listed : (m : ℕ) (f : ℕ → ℕ) (xs : List ℕ) → length xs ≡ m → ((i : ℕ) → i < m → getD xs i 0 ≡ f i) → xs ≡ tabulate m f
 listed m f xs e h = sym (tabulate-getD xs) ∙ ap (λ (n : ℕ). tabulate n (λ i. getD xs i 0)) e ∙ tabulate-ext m _ f h
@@ -51,17 +55,21 @@ pub row-at : (p : ℕ) (u : List ℕ) (i : ℕ) → i < length u → getD (row p
 unfolding row
 row-at p u i h = getD-tabulate (length u) (λ o. getD u (sub (length u) o p) 0) i h
 
--- the row from check c on is straight: u from o on
+-- a row is straight: check c + i gets symbol o + i, from check p on and before it
+module _ (u : List ℕ) (p c o i : ℕ) where
+  from-on : p ≤ c → c + i < length u → c ≡ p + o → o + i ≡ sub (length u) (c + i) p
+  from-on h w e = omega (arith, sub-no-borrow (length u) (omega arith) (c + i) p (omega arith) (omega arith))
+
+  up-to : c + i < p → p < length u → o ≡ length u - p + c → o + i ≡ sub (length u) (c + i) p
+  up-to h w e = omega (arith, sub-borrow (length u) (omega arith) (c + i) p (omega arith) (omega arith))
+
+-- the part of u that is the row of p from check c on
 module _ (p : ℕ) (u : List ℕ) (n o c : ℕ) where
   straight-from : p ≤ c → c + n ≤ length u → c ≡ p + o → (i : ℕ) → i < n → getD (take n (drop o u)) i 0 ≡ getD u (sub (length u) (c + i) p) 0
-  straight-from h w e i l =
-      let z : o + i ≡ sub (length u) (c + i) p = omega (arith, sub-no-borrow (length u) (omega arith) (c + i) p (omega arith) (omega arith)) in
-      part-at n o u i l ∙ ap (λ (x : ℕ). getD u x 0) z
+  straight-from h w e i l = part-at n o u i l ∙ ap (λ (x : ℕ). getD u x 0) (from-on u p c o i h (omega arith) e)
 
   straight-before : c + n ≤ p → p < length u → o ≡ length u - p + c → (i : ℕ) → i < n → getD (take n (drop o u)) i 0 ≡ getD u (sub (length u) (c + i) p) 0
-  straight-before h w e i l =
-      let z : o + i ≡ sub (length u) (c + i) p = omega (arith, sub-borrow (length u) (omega arith) (c + i) p (omega arith) (omega arith)) in
-      part-at n o u i l ∙ ap (λ (x : ℕ). getD u x 0) z
+  straight-before h w e i l = part-at n o u i l ∙ ap (λ (x : ℕ). getD u x 0) (up-to u p c o i (omega arith) w e)
 
 -- a symbol of a sum of lists, by the symbols added
 sum-at : (q : ℕ) (xs ys : List ℕ) (i a b : ℕ) → i < length xs → getD xs i 0 ≡ a → getD ys i 0 ≡ b → getD (addEach q xs ys) i 0 ≡ add q a b
@@ -108,46 +116,41 @@ module _ (p : ℕ) (s u : List ℕ) (same : length s ≡ length u) (h : p < leng
       (straight-before p u (length u - (length u - p)) (length u - p) 0 (omega arith) (omega arith) (omega arith) i (omega arith))))
       ∙ sym (sum-of-row q)
 
+-- two parts of u added to s
+pub added-parts : (q a b : ℕ) (s u : List ℕ) → addEach q (addEach q s (take (a + length s - a) (drop a u))) (take (b + length s - b) (drop b u)) ≡ withTwoParts q a b s u
+unfolding withTwoParts
+added-parts q a b s u =
+    listed (length s) _ _ (each-length q _ _ ∙ each-length q s _)
+    (λ i l. two-at q s _ _ i _ _ _ l refl (part-at (a + length s - a) a u i (omega arith)) (part-at (b + length s - b) b u i (omega arith)))
+
 -- the rows of p and r, of which p comes first
 module _ (q p r : ℕ) (u : List ℕ) (first : p ≤ r) (h : r < length u) where
-  -- the parts that are added have the lengths of those they are added to
-  pub lengths-before : (s : List ℕ) → length s ≡ r
-      → (length (take (length s - p) (drop p s)) ≡ length (take (r - p) u))
-      × (length (take (length s - p) (drop p s)) ≡ length (take (length u - (length u - r + p)) (drop (length u - r + p) u)))
-      × (p ≡ length (take (length u - (length u - p)) (drop (length u - p) u)))
-      × (p ≡ length (take (length u - r + p - (length u - r)) (drop (length u - r) u)))
-  lengths-before s same = (
-    simp (length-take, length-drop) (omega arith),
-    simp (length-take, length-drop) (omega arith),
-    simp (length-take, length-drop) (omega arith),
-    simp (length-take, length-drop) (omega arith),
-  )
+  module _ (s : List ℕ) where
+    -- the two parts of u that are the two rows from check o on
+    part-is : (n o a b : ℕ) → o + n ≤ length s → ((i : ℕ) → i < n → a + i ≡ sub (length u) (o + i) p) → ((i : ℕ) → i < n → b + i ≡ sub (length u) (o + i) r)
+        → withTwoParts q a b (take n (drop o s)) u ≡ tabulate n (λ i. withTwoRows q p r s u (o + i))
+    unfolding withTwoParts
+    part-is n o a b w d e =
+        ap (λ (m : ℕ). tabulate m (λ i. add q (add q (getD (take n (drop o s)) i 0) (getD u (a + i) 0)) (getD u (b + i) 0))) (part-length n o s w)
+        ∙ tabulate-ext n _ _ (λ i l. rw (part-at n o s i l, d i l, e i l))
 
-  pub lengths-from : (s : List ℕ) → length s ≡ length u
-      → (length (take (length s - r) (drop r s)) ≡ length (take (length u - p - (r - p)) (drop (r - p) u)))
-      × (length (take (length s - r) (drop r s)) ≡ length (take (length u - r) u))
-  lengths-from s same =
-      let w : length (take (length s - r) (drop r s)) ≡ length u - r = part-length (length s - r) r s (omega arith) ∙ ap (λ (n : ℕ). n - r) same in (
-        w ∙ (let z : length u - r ≡ length u - p - (r - p) = omega arith in z) ∙ sym (part-length (length u - p - (r - p)) (r - p) u (omega arith)),
-        w ∙ sym (part-length (length u - r) 0 u (omega arith)),
-      )
+    lead-is : (n a b : ℕ) → n ≤ length s → ((i : ℕ) → i < n → a + i ≡ sub (length u) (0 + i) p) → ((i : ℕ) → i < n → b + i ≡ sub (length u) (0 + i) r)
+        → withTwoParts q a b (take n s) u ≡ tabulate n (withTwoRows q p r s u)
+    lead-is n a b w d e =
+        part-is n 0 a b (omega arith) d e ∙ tabulate-ext n _ _ (λ i l. ap (withTwoRows q p r s u) (let z : 0 + i ≡ i = omega arith in z))
 
-  -- added to the checks before r
-  pub added-before : (s : List ℕ) → length s ≡ r → (x y : List ℕ)
-      → x ≡ addEach q (addEach q (take (length s - p) (drop p s)) (take (r - p) u)) (take (length u - (length u - r + p)) (drop (length u - r + p) u))
-      → y ≡ addEach q (addEach q (take p (putMid p (length s - p) s x)) (take (length u - (length u - p)) (drop (length u - p) u)))
-      (take (length u - r + p - (length u - r)) (drop (length u - r) u))
+  -- added to the checks before r: x from p on, y before p
+  pub added-before : (s : List ℕ) → length s ≡ r → (x y : List ℕ) → x ≡ withTwoParts q 0 (length u - r + p) (take (length s - p) (drop p s)) u
+      → y ≡ withTwoParts q (length u - p) (length u - r) (take p (putMid p (length s - p) s x)) u
       → y ++ drop p (putMid p (length s - p) s x) ≡ tabulate r (withTwoRows q p r s u)
   added-before s same x y d e =
-      put-both p s (omega arith) (withTwoRows q p r s u) x y (rw d (each-length q _ _ ∙ each-length q _ _ ∙ simp (length-take, length-drop) (omega arith)))
-      (λ i l. rw d (two-at q _ _ _ i _ _ _ (simp (length-take, length-drop) (omega arith)) (part-at (length s - p) p s i l)
-      (straight-from p u (r - p) 0 p (omega arith) (omega arith) (omega arith) i (omega arith))
-      (straight-before r u (length u - (length u - r + p)) (length u - r + p) p (omega arith) (omega arith) (omega arith) i (omega arith))))
-      (rw (e, lead p s (omega arith) x) (each-length q _ _ ∙ each-length q _ _ ∙ simp length-take (omega arith)))
-      (λ i l. rw (e, lead p s (omega arith) x) (two-at q _ _ _ i _ _ _ (simp length-take (omega arith)) (part-at p 0 s i l)
-      (straight-before p u (length u - (length u - p)) (length u - p) 0 (omega arith) (omega arith) (omega arith) i (omega arith))
-      (straight-before r u (length u - r + p - (length u - r)) (length u - r) 0 (omega arith) (omega arith) (omega arith) i (omega arith))))
-      ∙ ap (λ (n : ℕ). tabulate n (withTwoRows q p r s u)) same
+      both p s (omega arith) (length s - p) (withTwoRows q p r s u) x y
+      (d ∙ part-is s (length s - p) p 0 (length u - r + p) (omega arith) (λ i l. from-on u p p 0 i (omega arith) (omega arith) (omega arith))
+      (λ i l. up-to u r p (length u - r + p) i (omega arith) (omega arith) (omega arith)))
+      (e ∙ ap (λ (l : List ℕ). withTwoParts q (length u - p) (length u - r) l u) (lead p s (omega arith) x)
+      ∙ lead-is s p (length u - p) (length u - r) (omega arith) (λ i l. up-to u p 0 (length u - p) i (omega arith) (omega arith) (omega arith))
+      (λ i l. up-to u r 0 (length u - r) i (omega arith) (omega arith) (omega arith)))
+      ∙ ap (λ (n : ℕ). tabulate n (withTwoRows q p r s u)) (let z : p + (length s - p) ≡ r = omega arith in z)
 
   sum-of-two : (s : List ℕ) → length s ≡ length u → addEach q (addEach q s (row p u)) (row r u) ≡ tabulate (length s) (withTwoRows q p r s u)
   sum-of-two s same =
@@ -155,17 +158,14 @@ module _ (q p r : ℕ) (u : List ℕ) (first : p ≤ r) (h : r < length u) where
       (λ i l. two-at q s (row p u) (row r u) i _ _ _ l refl (row-at p u i (omega arith)) (row-at r u i (omega arith)))
 
   -- added to all checks: x from r on, and before r what the checks before r become
-  pub added-two : (s : List ℕ) → length s ≡ length u → (x y : List ℕ)
-      → x ≡ addEach q (addEach q (take (length s - r) (drop r s)) (take (length u - p - (r - p)) (drop (r - p) u))) (take (length u - r) u)
+  pub added-two : (s : List ℕ) → length s ≡ length u → (x y : List ℕ) → x ≡ withTwoParts q (r - p) 0 (take (length s - r) (drop r s)) u
       → y ≡ tabulate r (withTwoRows q p r (take r (putMid r (length s - r) s x)) u)
       → y ++ drop r (putMid r (length s - r) s x) ≡ addEach q (addEach q s (row p u)) (row r u)
   added-two s same x y d e =
-      put-both r s (omega arith) (withTwoRows q p r s u) x y (rw d (each-length q _ _ ∙ each-length q _ _ ∙ simp (length-take, length-drop) (omega arith)))
-      (λ i l. rw d (two-at q _ _ _ i _ _ _ (simp (length-take, length-drop) (omega arith)) (part-at (length s - r) r s i l)
-      (straight-from p u (length u - p - (r - p)) (r - p) r (omega arith) (omega arith) (omega arith) i (omega arith))
-      (straight-from r u (length u - r) 0 r (omega arith) (omega arith) (omega arith) i (omega arith))))
-      (rw e (length-tabulate r _))
-      (λ i l. rw (e, lead r s (omega arith) x) (getD-tabulate r (withTwoRows q p r (take r s) u) i l
-      ∙ ap (λ (z : ℕ). add q (add q z (getD u (sub (length u) i p) 0)) (getD u (sub (length u) i r) 0)) (getD-take r s i 0 l)
-      ∙ ap (withTwoRows q p r s u) (let z : i ≡ 0 + i = omega arith in z)))
+      both r s (omega arith) (length s - r) (withTwoRows q p r s u) x y
+      (d ∙ part-is s (length s - r) r (r - p) 0 (omega arith) (λ i l. from-on u p r (r - p) i (omega arith) (omega arith) (omega arith))
+      (λ i l. from-on u r r 0 i (omega arith) (omega arith) (omega arith)))
+      (e ∙ ap (λ (l : List ℕ). tabulate r (withTwoRows q p r l u)) (lead r s (omega arith) x)
+      ∙ tabulate-ext r _ _ (λ i l. ap (λ (z : ℕ). add q (add q z (getD u (sub (length u) i p) 0)) (getD u (sub (length u) i r) 0)) (getD-take r s i 0 l)))
+      ∙ ap (λ (n : ℕ). tabulate n (withTwoRows q p r s u)) (let z : r + (length s - r) ≡ length s = omega arith in z)
       ∙ sym (sum-of-two s same)

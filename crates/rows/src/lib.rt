@@ -1,9 +1,9 @@
 // The rows of a check sum: the data turned by a position of the table. Written, or added to the checks, in straight runs.
 ghost use mathlib.Core.Path.{_≡_};
-ghost use Prim.Native.Nat.{_<_, _≤_};
+ghost use Prim.Native.Nat.{_+_, _<_, _≤_};
 ghost use lib.ListN.{length};
 ghost use Rattle.model.specs.Symbols.{Below, addEach, tabulate};
-ghost use Rattle.rows.specs.Rows.{row, withTwoRows};
+ghost use Rattle.rows.specs.Rows.{row, withTwoParts, withTwoRows};
 
 // The row of p written over dst, in two straight runs.
 pub fn copy_row(p: usize, dst: &mut [u8], src: &[u8])
@@ -25,14 +25,28 @@ pub fn add_row(q: u32, p: usize, acc: &mut [u8], src: &[u8])
     symbols::add_into(q, &mut acc[..p], &src[rest..]);
 }
 
+// src from a on and src from b on, added to acc as far as acc reaches.
+fn add_two_parts(q: u32, acc: &mut [u8], src: &[u8], a: usize, b: usize)
+    requires { ⌜ (2 ≤ q)
+        × (q ≤ 256)
+        × (a + length (now acc) ≤ length (now src))
+        × (b + length (now acc) ≤ length (now src))
+        × Below q (now acc)
+        × Below q (now src) ⌝ }
+    ensures { λ _. ⌜ now (acc .exit) ≡ withTwoParts q a b (now (acc .entry)) (now (src .entry)) ⌝ }
+{
+    let n = acc.len();
+    symbols::add_two_into(q, acc, &src[a..a + n], &src[b..b + n]);
+}
+
 // The rows of p and r added to the checks before r, which are acc: those from p on, then those before p.
 fn add_two_before(q: u32, p: usize, r: usize, acc: &mut [u8], src: &[u8])
     requires { ⌜ (2 ≤ q) × (q ≤ 256) × (length (now acc) ≡ r) × (p ≤ r) × (r < length (now src)) × Below q (now acc) × Below q (now src) ⌝ }
     ensures { λ _. ⌜ now (acc .exit) ≡ tabulate r (withTwoRows q p r (now (acc .entry)) (now (src .entry))) ⌝ }
 {
-    let k = src.len();
-    symbols::add_two_into(q, &mut acc[p..], &src[..r - p], &src[k - r + p..]);
-    symbols::add_two_into(q, &mut acc[..p], &src[k - p..], &src[k - r..k - r + p]);
+    let rest = src.len() - r;
+    add_two_parts(q, &mut acc[p..], src, 0, rest + p);
+    add_two_parts(q, &mut acc[..p], src, src.len() - p, rest);
 }
 
 // The rows of p and r added to acc, in three straight runs.
@@ -46,7 +60,6 @@ pub fn add_two_rows(q: u32, p: usize, r: usize, acc: &mut [u8], src: &[u8])
         × Below q (now src) ⌝ }
     ensures { λ _. ⌜ now (acc .exit) ≡ addEach q (addEach q (now (acc .entry)) (row p (now (src .entry)))) (row r (now (src .entry))) ⌝ }
 {
-    let k = src.len();
-    symbols::add_two_into(q, &mut acc[r..], &src[r - p..k - p], &src[..k - r]);
+    add_two_parts(q, &mut acc[r..], src, r - p, 0);
     add_two_before(q, p, r, &mut acc[..r], src);
 }
