@@ -4,7 +4,7 @@
 #   make demo                   prove crate by crate, build, and run the charger example
 #   make test-c                 the C tests over the archive
 #   make install PREFIX=..      header, archive and pkg-config file
-#   make bench                  the library against plain C
+#   make bench                  the library against C: times, and instructions a data byte
 #   make pages, check-pages     make the reference pages anew; compare them with the committed ones
 #   make clean                  remove build/
 
@@ -64,8 +64,10 @@ install: lib
 	install -m 644 build/libqmtd.a $(DESTDIR)$(PREFIX)/lib/
 	install -m 644 build/qmtd.pc $(DESTDIR)$(PREFIX)/lib/pkgconfig/
 
+# Times, and instructions where valgrind is there to count them.
 bench: lib
 	bench/run
+	@if command -v valgrind >/dev/null; then bench/count; else echo "no valgrind: instructions not counted"; fi
 
 pages:
 	$(PYTHON) tests/reference/make_pages.py
