@@ -48,7 +48,7 @@ fn sub_byte(a: u8, b: u8) -> u8
     std::num::wrapping_sub_u8(a, b)
 }
 
-// The loops at q = 256: one wrapping sum or difference a turn.
+// The loops at q = 256: a turn takes one or two wrapping sums, or a difference.
 fn add_bytes(acc: &mut [u8], src: &[u8])
     requires { ⌜ length (now acc) ≡ length (now src) ⌝ }
     ensures { λ _. ⌜ now (acc .exit) ≡ addEach 256 (now (acc .entry)) (now (src .entry)) ⌝ }
