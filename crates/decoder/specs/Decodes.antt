@@ -39,7 +39,8 @@ unfolding tabulate weight
 weight-zeros zero = refl
 weight-zeros (suc n) = omega (arith, weight-zeros n, differ-no 0 0 refl)
 
-idle-thresholds : (q : ℕ) (checks : ℕ → List ℕ) (js : List ℕ) (t : ℕ) (ts : List ℕ) (st : State) → changeCount q checks (pass js t) st ≡ 0 → thresholdsRun q checks js (t ∷ ts) st ≡ t ∷ []
+idle-thresholds : (q : ℕ) (checks : ℕ → List ℕ) (js : List ℕ) (t : ℕ) (ts : List ℕ) (st : State) → changeCount q checks (pass js t) st ≡ 0
+    → thresholdsRun q checks js (t ∷ ts) st ≡ t ∷ []
 unfolding thresholdsRun
 idle-thresholds q checks js t ts st e = rw (eqb-yes (changeCount q checks (pass js t) st) 0 e) refl
 
@@ -61,7 +62,8 @@ unfolding stateWeight
 state-weight st = refl
 
 -- what the run leaves, and its counts
-module _ (c : Code) (ts page : List ℕ) (x : Progress) (n : ℕ) (f : x ≡ runOf c ts (record { state = opened c page; tally = record { passes = 0; changes = 0; start = n; end = n } })) where
+module _ (c : Code) (ts page : List ℕ) (x : Progress) (n : ℕ)
+    (f : x ≡ runOf c ts (record { state = opened c page; tally = record { passes = 0; changes = 0; start = n; end = n } })) where
   run-state : x .state ≡ decodedState c ts page
   unfolding runOf ran decodedState run passesOf
   run-state = ap (λ (y : Progress). y .state) f
@@ -147,7 +149,8 @@ run-decoded c page r s d h ts n e x f g w =
 pub run-lengths : (c : Code) (p x : Progress) (ts : List ℕ) → Ready c (p .state) → x ≡ runOf c ts p → (length (x .state .difference) ≤ 4096) × (length (x .state .syndrome) ≤ 4096)
 unfolding runOf ran
 run-lengths c p x ts r e =
-    let z = after-sized (code-incidence c (r .limits) (r .orthogonal)) (passes (dataSymbols c) (thresholdsRun (c .q) (checksOf c) (dataSymbols c) ts (p .state))) (p .state) (r .sized) in
+    let z = after-sized (code-incidence c (r .limits) (r .orthogonal)) (passes (dataSymbols c) (thresholdsRun (c .q) (checksOf c) (dataSymbols c) ts (p .state)))
+    (p .state) (r .sized) in
     rw e (omega (arith, z .len-difference, r .limits .k-high), omega (arith, z .len-syndrome, r .limits .k-high))
 
 -- ---- the call

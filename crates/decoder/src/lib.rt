@@ -104,7 +104,10 @@ fn decode_page(
         × (0 < length (now thresholds))
         × (length (now thresholds) ≤ 64) ⌝ }
     ensures { λ t. ⌜ progress (now (result .exit)) (now (s .exit)) (now (d .exit)) t
-        ≡ record { state = decodedState (codeOf q k (now (positions .entry))) (now (thresholds .entry)) (now (page .entry)); tally = tallyOf (decodedCounts (codeOf q k (now (positions .entry))) (now (thresholds .entry)) (now (page .entry))) } ⌝ }
+        ≡ record {
+          state = decodedState (codeOf q k (now (positions .entry))) (now (thresholds .entry)) (now (page .entry));
+          tally = tallyOf (decodedCounts (codeOf q k (now (positions .entry))) (now (thresholds .entry)) (now (page .entry)));
+        } ⌝ }
 {
     let start = open_page(q, k, positions, page, result, s, d);
     if start == 0 {

@@ -126,7 +126,13 @@ ran-nil : (c : Code) (n : ℕ) (p : Progress) → ran c n [] p ≡ passesFrom c 
 unfolding ran passesFrom passes after changeCount
 ran-nil c n p = λ i. record {
   state = p .state;
-  tally = record { passes = (let e : n + 0 ≡ n = omega arith in e) i; changes = (let e : p .tally .changes + 0 ≡ p .tally .changes = omega arith in e) i; start = p .tally .start; end = p .tally .end };
+  tally = record {
+    passes = (let e : n + 0 ≡ n = omega arith in e) i;
+    changes = (let e : p .tally .changes + 0 ≡ p .tally .changes = omega arith in
+        e) i;
+    start = p .tally .start;
+    end = p .tally .end;
+  };
 }
 
 ran-cons : (c : Code) (n t : ℕ) (ts : List ℕ) (p : Progress) → ran c n (t ∷ ts) p ≡ ran c (suc n) ts (visits c t (dataCount c) p)
@@ -239,7 +245,8 @@ module _ (c : Code) (v : Visit) (r s d : List ℕ) (t : Tally) where
       rw (n, visit-no (c .q) (checksOf c) v st n) (both refl (with-changes t (omega arith)))
 
   pub visit-made : (h : ℕ) → h ≡ toSubtract (v .threshold) (getD d (v .symbol) 0 ∷ symbolsAt s (checksOf c (v .symbol))) → h ≢ 0
-      → progress (set r (v .symbol) (sub (c .q) (getD r (v .symbol) 0) h)) (subtractAt (c .q) h (checksOf c (v .symbol)) s) (set d (v .symbol) (sub (c .q) (getD d (v .symbol) 0) h)) (counted 1 t)
+      → progress (set r (v .symbol) (sub (c .q) (getD r (v .symbol) 0) h)) (subtractAt (c .q) h (checksOf c (v .symbol)) s)
+      (set d (v .symbol) (sub (c .q) (getD d (v .symbol) 0) h)) (counted 1 t)
       ≡ visitOf c v (progress r s d t)
   unfolding visitOf changes estimates change
   visit-made h e n =

@@ -96,7 +96,8 @@ fn visit(
         × (tally .changes < 4294967295)
         × (now zeros ≡ zeroCounts k (now positions) (now syndrome)) ⌝ }
     ensures step { λ t. ⌜ progress (now (result .exit)) (now (syndrome .exit)) (now (difference .exit)) t
-        ≡ visitOf (codeOf q k (now (positions .entry))) (record { symbol = j; threshold = threshold }) (progress (now (result .entry)) (now (syndrome .entry)) (now (difference .entry)) tally) ⌝ }
+        ≡ visitOf (codeOf q k (now (positions .entry))) (record { symbol = j; threshold = threshold })
+        (progress (now (result .entry)) (now (syndrome .entry)) (now (difference .entry)) tally) ⌝ }
     ensures counted { λ t. ⌜ now (zeros .exit) ≡ zeroCounts k (now (positions .entry)) (now (syndrome .exit)) ⌝ }
 {
     let own = difference[j];

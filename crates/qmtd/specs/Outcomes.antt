@@ -109,7 +109,8 @@ module _ (c : Code) (page ts : List ℕ) (lent : State) (counts : List ℕ) wher
         let s : got .state ≡ lent = ap (λ (x : Decoded). x .state) e ∙ rw (eqb-no _ 0 (λ z. d (number-of ∙ z))) refl in
         ap (λ (x : State). record { number = got .number; state = x; counts = counts }) s ∙ decode-refused (got .number) (number-of ∙ same-answer h) d
 
-    pub decode-done : got .number ≡ 0 → (out : List ℕ) → out ≡ bytesOf (got .counts) → _≡_ {A = CDecoded} (record { number = 0; state = got .state; counts = out }) (cDecodeOutcome c page ts lent counts)
+    pub decode-done : got .number ≡ 0 → (out : List ℕ) → out ≡ bytesOf (got .counts)
+        → _≡_ {A = CDecoded} (record { number = 0; state = got .state; counts = out }) (cDecodeOutcome c page ts lent counts)
     unfolding decodeOutcome cDecodeOutcome
     decode-done z out b =
         let n : 0 ≡ answer = sym z ∙ number-of ∙ same-answer h in
@@ -152,7 +153,8 @@ module _ (q k : ℕ) (xs ps : List ℕ) (e : xs ≡ kept ps) where
   unfolding cDecodeAnswer pageTests tableTests codeTests within
   decode-read page ts lent counts = read-same (λ l. cDecodeOutcome (codeOf q k l) page ts lent counts) xs ps e
       (λ h.
-      let no : cDecodeAnswer (codeOf q k []) page ts (length (lent .result)) (length (lent .syndrome)) (length (lent .difference)) (length counts) ≡ badJ (codeOf q k ps) = bad-J (codeOf q k []) _ refl in
+      let no : cDecodeAnswer (codeOf q k []) page ts (length (lent .result)) (length (lent .syndrome)) (length (lent .difference)) (length counts)
+      ≡ badJ (codeOf q k ps) = bad-J (codeOf q k []) _ refl in
       let many : cDecodeAnswer (codeOf q k ps) page ts (length (lent .result)) (length (lent .syndrome)) (length (lent .difference)) (length counts) ≡ badJ (codeOf q k ps) =
       bad-J (codeOf q k ps) _ (not-within ps h) in
       sym (decode-refused (codeOf q k []) page ts lent counts (badJ (codeOf q k ps)) (sym no) (badJ-number (codeOf q k ps)))

@@ -37,7 +37,8 @@ module _ (table : List ℕ) (even : length table % 2 ≡ 0) where
   kept-all h = sym (kept-even ∙ rw (le-leb (length table / 2) 32 (omega arith)) refl)
 
 -- one byte more: the second byte of a position, with the byte before it, gives the position; a first byte alters none that is complete
-pub byte-turn : (table positions : List ℕ) (i last : ℕ) → i / 2 < length positions → take (i / 2) positions ≡ tabulate (i / 2) (positionAt table) → (0 < i → last ≡ getD table (i - 1) 0)
+pub byte-turn : (table positions : List ℕ) (i last : ℕ) → i / 2 < length positions → take (i / 2) positions ≡ tabulate (i / 2) (positionAt table)
+    → (0 < i → last ≡ getD table (i - 1) 0)
     → take ((i + 1) / 2) (set positions (i / 2) (last + 256 * getD table i 0)) ≡ tabulate ((i + 1) / 2) (positionAt table)
 byte-turn table positions i last h e before =
     let j : ℕ = i / 2 in

@@ -124,8 +124,13 @@ pub extern "C" fn qmtd_decode(
     difference: &mut [u8],
     counts: &mut [u8],
 ) -> u32
-    ensures outcome { λ r. ⌜ record { number = r; state = record { result = now (result .exit); syndrome = now (syndrome .exit); difference = now (difference .exit) }; counts = now (counts .exit) }
-        ≡ cDecodeOutcome (codeOf q k (positionsOf (now (table .entry)))) (now (page .entry)) (now (thresholds .entry)) (record { result = now (result .entry); syndrome = now (syndrome .entry); difference = now (difference .entry) }) (now (counts .entry)) ⌝ }
+    ensures outcome { λ r. ⌜ record {
+      number = r;
+      state = record { result = now (result .exit); syndrome = now (syndrome .exit); difference = now (difference .exit) };
+      counts = now (counts .exit);
+    }
+        ≡ cDecodeOutcome (codeOf q k (positionsOf (now (table .entry)))) (now (page .entry)) (now (thresholds .entry))
+        (record { result = now (result .entry); syndrome = now (syndrome .entry); difference = now (difference .entry) }) (now (counts .entry)) ⌝ }
     ensures falling { λ r. ⌜ (r ≡ 0 → RunFalls (codeOf q k (positionsOf (now (table .entry)))) (now (thresholds .entry)) (now (page .entry))) ⌝ }
     ensures recovery { λ r. ⌜ (r ≡ 0 → Recovers (codeOf q k (positionsOf (now (table .entry)))) (now (thresholds .entry)) (now (page .entry)) (now (result .exit))) ⌝ }
 {

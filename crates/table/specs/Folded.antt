@@ -101,7 +101,8 @@ unfolding foldedBy
 by-folded k least [] t = tt
 by-folded k least (b ∷ later) t =
     let f = fit-cons k least b later t in
-    all-append (Folded k) (foldedFrom k b later) (foldedBy k later) (from-folded k b later (fit-above k (suc b) (suc b) (omega arith) later (f .2))) (by-folded k (suc b) later (f .2))
+    all-append (Folded k) (foldedFrom k b later) (foldedBy k later) (from-folded k b later (fit-above k (suc b) (suc b) (omega arith) later (f .2)))
+    (by-folded k (suc b) later (f .2))
 
 all-weaken : (P Q : ℕ → Type 0) → ((x : ℕ) → P x → Q x) → (xs : List ℕ) → All P xs → All Q xs
 all-weaken P Q f [] a = tt
@@ -165,7 +166,8 @@ module _ (k : ℕ) (ps : List ℕ) (pos : 0 < k) (t : positionsFit k 0 ps ≡ tr
 -- ---- the marking, the loops' way
 
 -- the flag of half of k, set beforehand where k is even
-pub half-flag : (k : ℕ) (seen : List ℕ) (n : ℕ) → n ≡ same (k / 2 + k / 2) k → k < length seen + length seen → ((w : ℕ) → getD seen w 0 ≡ 0) → (w : ℕ) → getD (set seen (k / 2) n) w 0 ≡ same (w + w) k
+pub half-flag : (k : ℕ) (seen : List ℕ) (n : ℕ) → n ≡ same (k / 2 + k / 2) k → k < length seen + length seen → ((w : ℕ) → getD seen w 0 ≡ 0) → (w : ℕ)
+    → getD (set seen (k / 2) n) w 0 ≡ same (w + w) k
 half-flag k seen n s fits z w = elim (ℕ-discrete w (k / 2)) as (λ o. getD (set seen (k / 2) n) w 0 ≡ same (w + w) k) [
   | yes e ↦ rw e (getD-set-same seen (k / 2) n 0 (omega arith) ∙ s)
   | no d ↦ omega (arith, getD-set-other seen (k / 2) w n 0 d, z w, same-no (w + w) k (λ e. omega arith))

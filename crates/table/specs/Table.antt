@@ -77,7 +77,8 @@ fit-later k least ps t i h = rw (add-one i, add-one (getD ps i 0)) (go least ps 
 -- ---- self-orthogonality
 
 -- what the differences tell, whatever q is
-pub orthogonal-told : (k : ℕ) (ps : List ℕ) → zero < k → positionsFit k 0 ps ≡ true → (r : Bool) → r ≡ allDifferent (differencesBy k ps ps) → (q : ℕ) → r ≡ selfOrthogonal (codeOf q k ps)
+pub orthogonal-told : (k : ℕ) (ps : List ℕ) → zero < k → positionsFit k 0 ps ≡ true → (r : Bool) → r ≡ allDifferent (differencesBy k ps ps) → (q : ℕ) → r
+    ≡ selfOrthogonal (codeOf q k ps)
 orthogonal-told k ps pos e r d q =
     let c = codeOf q k ps in
     let test = orthogonal-test c in

@@ -119,7 +119,8 @@ pub record PageFits (c : Code) (fits : Bool) (input : List ℕ) : Type 0 where
   pub buffers : fits ≡ true
   pub symbols : allBelow (c .q) input ≡ true
 
-limits-of : (c : Code) → within 3 256 (c .q) ≡ true → within 1 4096 (c .k) ≡ true → within 1 32 (length (c .positions)) ≡ true → positionsFit (c .k) 0 (c .positions) ≡ true → Limits c
+limits-of : (c : Code) → within 3 256 (c .q) ≡ true → within 1 4096 (c .k) ≡ true → within 1 32 (length (c .positions)) ≡ true → positionsFit (c .k) 0 (c .positions)
+    ≡ true → Limits c
 limits-of c a b d e =
     let q = within-facts 3 256 (c .q) a in
     let k = within-facts 1 4096 (c .k) b in

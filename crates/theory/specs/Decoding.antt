@@ -126,7 +126,8 @@ module _ (c : Code) (l : Limits c) where
     pub code-opened-sized : Sized (c .q) (dataCount c) (checkCount c) (opened c page)
     code-opened-sized = rw (code-opened page) (opened-sized (code-incidence c l o) whole)
 
-    pub code-distance : (vs : List Visit) → InRange (dataCount c) vs → distanceTo c page (after (c .q) (checksOf c) vs (opened c page)) ≡ stateWeight (after (c .q) (checksOf c) vs (opened c page))
+    pub code-distance : (vs : List Visit) → InRange (dataCount c) vs → distanceTo c page (after (c .q) (checksOf c) vs (opened c page))
+        ≡ stateWeight (after (c .q) (checksOf c) vs (opened c page))
     code-distance vs r =
         let inc = code-incidence c l o in
         let st : State = openedBy (c .q) (dataCount c) (checkCount c) (checksOf c) page in
@@ -135,7 +136,8 @@ module _ (c : Code) (l : Limits c) where
         let z : Sized (c .q) (dataCount c) (checkCount c) st = opened-sized inc whole in
         let got : Received (c .q) (dataCount c) (checkCount c) x y = received (c .q) (dataCount c) (checkCount c) (inc .pos) page whole in
         rw (code-opened page, distance-of)
-        (ap (λ (p : List ℕ). distance (wordOf (c .q) (dataCount c) (checkCount c) (checksOf c) (after (c .q) (checksOf c) vs st .result)) p) (sym (take-append-drop (dataCount c) page))
+        (ap (λ (p : List ℕ). distance (wordOf (c .q) (dataCount c) (checkCount c) (checksOf c) (after (c .q) (checksOf c) vs st .result)) p)
+        (sym (take-append-drop (dataCount c) page))
         ∙ page-distance (c .q) (dataCount c) (checkCount c) (inc .pos) (checksOf c) x y got (after (c .q) (checksOf c) vs st)
         (after-sized inc vs st z) (after-tied inc got vs r st z (opened-tied inc whole)))
 

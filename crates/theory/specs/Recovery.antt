@@ -54,9 +54,15 @@ module _ {q m k J : ℕ} {checks : ℕ → List ℕ} {u x y : List ℕ} (sent : 
   err : ℕ
   err = errorOf q u (st .result) j
 
+  -- whether check i was replaced, and how many other replaced data symbols are in it
+  abbrev replaced : ℕ → ℕ
+  replaced i = differ (checkSum m checks u i % q) (getD y i 0)
+
+  abbrev others : ℕ → ℕ
+  others i = sumBelow m (λ l. otherError u x j l * count i (checks l))
+
   -- check i votes for it where check i was not replaced and no other replaced symbol is in it
-  right : (i : ℕ) → i < k → count i (checks j) ≡ 1 → checkSum m checks u i % q ≡ getD y i 0 → sumBelow m (λ l. otherError u x j l * count i (checks l)) ≡ 0
-      → err ≡ getD (st .syndrome) i 0
+  right : (i : ℕ) → i < k → count i (checks j) ≡ 1 → checkSum m checks u i % q ≡ getD y i 0 → others i ≡ 0 → err ≡ getD (st .syndrome) i 0
   unfolding err checkSum
   right i hi one e w =
       let r : List ℕ = st .result in
@@ -73,7 +79,8 @@ module _ {q m k J : ℕ} {checks : ℕ → List ℕ} {u x y : List ℕ} (sent : 
             ) in
             rw z (omega arith)
       ]) in
-      let off : sumBelow m (λ l. count i (checks l) * getD r l 0) + count i (checks j) * getD u j 0 ≡ sumBelow m (λ l. count i (checks l) * getD u l 0) + count i (checks j) * getD r j 0 =
+      let off : sumBelow m (λ l. count i (checks l) * getD r l 0) + count i (checks j) * getD u j 0
+      ≡ sumBelow m (λ l. count i (checks l) * getD u l 0) + count i (checks j) * getD r j 0 =
       sum-off m (λ l. count i (checks l) * getD r l 0) (λ l. count i (checks l) * getD u l 0) j hj agree in
       let s : ℕ = sumBelow m (λ l. count i (checks l) * getD r l 0) in
       let s′ : ℕ = sumBelow m (λ l. count i (checks l) * getD u l 0) in
@@ -83,10 +90,9 @@ module _ {q m k J : ℕ} {checks : ℕ → List ℕ} {u x y : List ℕ} (sent : 
       ∙ ap (λ (z : ℕ). sub q (s % q) z) e
       ∙ sym (fits .tied .syndrome-is i hi)
 
-  vote-check : (i : ℕ) → i < k → count i (checks j) ≡ 1
-      → differ err (getD (st .syndrome) i 0) ≤ differ (checkSum m checks u i % q) (getD y i 0) + sumBelow m (λ l. otherError u x j l * count i (checks l))
-  vote-check i hi one = elim (ℕ-discrete (checkSum m checks u i % q) (getD y i 0)) as (λ o. differ err (getD (st .syndrome) i 0) ≤ differ (checkSum m checks u i % q) (getD y i 0) + sumBelow m (λ l. otherError u x j l * count i (checks l))) [
-    | yes e ↦ elim (ℕ-discrete (sumBelow m (λ l. otherError u x j l * count i (checks l))) 0) as (λ o. differ err (getD (st .syndrome) i 0) ≤ differ (checkSum m checks u i % q) (getD y i 0) + sumBelow m (λ l. otherError u x j l * count i (checks l))) [
+  vote-check : (i : ℕ) → i < k → count i (checks j) ≡ 1 → differ err (getD (st .syndrome) i 0) ≤ replaced i + others i
+  vote-check i hi one = elim (ℕ-discrete (checkSum m checks u i % q) (getD y i 0)) as (λ o. differ err (getD (st .syndrome) i 0) ≤ replaced i + others i) [
+    | yes e ↦ elim (ℕ-discrete (others i) 0) as (λ o. differ err (getD (st .syndrome) i 0) ≤ replaced i + others i) [
       | yes w ↦ omega (arith, differ-no err (getD (st .syndrome) i 0) (right i hi one e w))
       | no n ↦ omega (arith, differ-le err (getD (st .syndrome) i 0))
     ]
@@ -98,8 +104,6 @@ module _ {q m k J : ℕ} {checks : ℕ → List ℕ} {u x y : List ℕ} (sent : 
   unfolding errorCount estimates misses checkSymbolsOf err
   misses-errors =
       let is : List ℕ = checks j in
-      let f : ℕ → ℕ = (λ i. differ (checkSum m checks u i % q) (getD y i 0)) in
-      let g : ℕ → ℕ = (λ i. sumBelow m (λ l. otherError u x j l * count i (checks l))) in
       let shared : (l : ℕ) → l < m → sumOver is (λ i. otherError u x j l * count i (checks l)) ≤ otherError u x j l =
       (λ l hl. rw (sumOver-scale is (otherError u x j l) (λ i. count i (checks l)))
       (elim (ℕ-discrete l j) as (λ o. otherError u x j l * sumOver is (λ i. count i (checks l)) ≤ otherError u x j l) [
@@ -111,23 +115,23 @@ module _ {q m k J : ℕ} {checks : ℕ → List ℕ} {u x y : List ℕ} (sent : 
         | yes p ↦ omega (arith, differ-no err (getD (st .difference) j 0) (ap (λ (z : ℕ). sub q (getD (st .result) j 0) z) p ∙ sym (fits .tied .difference-is j hj)))
         | no n ↦ omega (arith, differ-le err (getD (st .difference) j 0), differ-yes (getD u j 0) (getD x j 0) n)
       ]) in
-      let votes : sumOver is (λ i. differ err (getD (st .syndrome) i 0)) ≤ sumOver is f + sumOver is (λ i. sumBelow m (λ l. otherError u x j l * count i (checks l))) =
+      let votes : sumOver is (λ i. differ err (getD (st .syndrome) i 0)) ≤ sumOver is replaced + sumOver is others =
       omega (
         arith,
-        sumOver-add is f g,
-        sumOver-le is (λ i. differ err (getD (st .syndrome) i 0)) (λ i. f i + g i)
-            (all-of (λ i. differ err (getD (st .syndrome) i 0) ≤ f i + g i) is
+        sumOver-add is replaced others,
+        sumOver-le is (λ i. differ err (getD (st .syndrome) i 0)) (λ i. replaced i + others i)
+            (all-of (λ i. differ err (getD (st .syndrome) i 0) ≤ replaced i + others i) is
             (λ i h. vote-check i (all-at (λ o. o < k) is (sent .inc .inside j hj) i h) (omega (arith, distinct-count is (sent .inc .apart j hj) i)))),
       ) in
-      let chk : sumOver is f ≤ distance (tabulate k (λ i. checkSum m checks u i % q)) y =
+      let chk : sumOver is replaced ≤ distance (tabulate k (λ i. checkSum m checks u i % q)) y =
       omega (
         arith,
-        sumOver-sub k is f (sent .inc .apart j hj) (sent .inc .inside j hj),
+        sumOver-sub k is replaced (sent .inc .apart j hj) (sent .inc .inside j hj),
         distance-sum k (tabulate k (λ i. checkSum m checks u i % q)) y (length-tabulate k _) (sent .page .len-y),
-        sum-ext k (λ i. differ (getD (tabulate k (λ o. checkSum m checks u o % q)) i 0) (getD y i 0)) f
+        sum-ext k (λ i. differ (getD (tabulate k (λ o. checkSum m checks u o % q)) i 0) (getD y i 0)) replaced
             (λ i l. ap (λ (z : ℕ). differ z (getD y i 0)) (getD-tabulate k (λ o. checkSum m checks u o % q) i l)),
       ) in
-      let dat : sumOver is (λ i. sumBelow m (λ l. otherError u x j l * count i (checks l))) + differ (getD u j 0) (getD x j 0) ≤ distance u x =
+      let dat : sumOver is others + differ (getD u j 0) (getD x j 0) ≤ distance u x =
       omega (
         arith,
         sumOver-swap is m (λ i l. otherError u x j l * count i (checks l)),
@@ -155,7 +159,8 @@ module _ {q m k J : ℕ} {checks : ℕ → List ℕ} {u x y : List ℕ} (sent : 
 
     -- a right symbol is left alone, at any threshold
     pub right-stays : getD (st .result) j 0 ≡ getD u j 0 → (h : ℕ) → isChange h (estimates (checks j) j st) ≡ false
-    right-stays e h = isChange-zero h (estimates (checks j) j st) (leader-error ∙ ap (λ (z : ℕ). sub q z (getD u j 0)) e ∙ sub-self q (sent .inc .pos) (getD u j 0) (sent .word .low j))
+    right-stays e h = isChange-zero h (estimates (checks j) j st)
+        (leader-error ∙ ap (λ (z : ℕ). sub q z (getD u j 0)) e ∙ sub-self q (sent .inc .pos) (getD u j 0) (sent .word .low j))
 
     -- a wrong symbol is changed, at a threshold within the bound
     pub wrong-changes : getD (st .result) j 0 ≢ getD u j 0 → (h : ℕ) → t + t + h ≤ J → T (isChange h (estimates (checks j) j st))
@@ -196,7 +201,8 @@ module _ {q m k J : ℕ} {checks : ℕ → List ℕ} {u x y : List ℕ} (sent : 
   pub settled : (v : Visit) → v .symbol < m → (st : State) → Fits q m k checks u x y st → getD (st .result) (v .symbol) 0 ≡ getD u (v .symbol) 0 → visit q checks v st ≡ st
   unfolding visit changes
   settled v hj st f e =
-      same-visit (isChange (v .threshold) (estimates (checks (v .symbol)) (v .symbol) st)) (change q (checks (v .symbol)) (v .symbol) (leader (estimates (checks (v .symbol)) (v .symbol) st)) st) st
+      same-visit (isChange (v .threshold) (estimates (checks (v .symbol)) (v .symbol) st))
+      (change q (checks (v .symbol)) (v .symbol) (leader (estimates (checks (v .symbol)) (v .symbol) st)) st) st
       (right-stays sent st f (v .symbol) hj t few room e (v .threshold))
 
   -- what a visit leaves at its symbol: what was there, or what was sent

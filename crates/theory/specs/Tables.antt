@@ -106,7 +106,8 @@ accepted-table k pos ps r d =
     record {
       low = f .0;
       apart = f .1;
-      once = (λ e h l. subst (λ (c : ℕ). c ≤ 1) (differences-count k pos ps ps (f .0) e (omega arith)) (distinct-count (differencesBy k ps ps) (distinct-test (differencesBy k ps ps) .0 d) e));
+      once = (λ e h l. subst (λ (c : ℕ). c ≤ 1) (differences-count k pos ps ps (f .0) e (omega arith))
+          (distinct-count (differencesBy k ps ps) (distinct-test (differencesBy k ps ps) .0 d) e));
     }
 
 row-far : (k : ℕ) → zero < k → (a : ℕ) (rs : List ℕ) (d : ℕ) → k ≤ d → sumOver rs (λ b. same d (sub k a b)) ≡ 0

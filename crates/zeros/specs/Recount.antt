@@ -31,7 +31,8 @@ zeros-set s c v h (i ∷ is) = elim (ℕ-discrete i c) as (λ o. count 0 (symbol
 -- a zero at c is counted as often as c is among the places
 pub zeros-hold : (s : List ℕ) (c : ℕ) → c < length s → (is : List ℕ) → same 0 (getD s c 0) * count c is ≤ count 0 (symbolsAt s is)
 zeros-hold s c h is =
-    let e = subst (λ (z : ℕ). count 0 (symbolsAt (set s c 1) is) + same 0 (getD s c 0) * count c is ≡ count 0 (symbolsAt s is) + z * count c is) (same-no 0 1 (omega arith)) (zeros-set s c 1 h is) in
+    let e = subst (λ (z : ℕ). count 0 (symbolsAt (set s c 1) is) + same 0 (getD s c 0) * count c is ≡ count 0 (symbolsAt s is) + z * count c is)
+    (same-no 0 1 (omega arith)) (zeros-set s c 1 h is) in
     omega (arith, e)
 
 -- how often c is a check of x by the first n positions

@@ -20,7 +20,8 @@ returns : tie.Need-returns
 returns c =
     let a = c .before .before .before .before .before .before .before .before .before .args in
     let code = codeOf (a .q) (a .k) (a .positions .now) in (
-      decode-left code (a .page .now) (a .thresholds .now) (a .result .now) (a .syndrome .now) (a .difference .now) _ _ (c .before .before .decode-answer .ensures) (c .before .if1 .taken) (c .opened .ensures),
+      decode-left code (a .page .now) (a .thresholds .now) (a .result .now) (a .syndrome .now) (a .difference .now) _ _ (c .before .before .decode-answer .ensures)
+          (c .before .if1 .taken) (c .opened .ensures),
       (λ e. absurd (c .before .if1 .taken e), λ e. absurd (c .before .if1 .taken e)),
     )
 
@@ -28,7 +29,8 @@ decode-page-requires : tie.Need-decode-page-requires
 decode-page-requires c κs =
     let a = c .before .before .before .before .before .before .before .before .before .before .before .args in
     let code = codeOf (a .q) (a .k) (a .positions .now) in
-    decode-opens code (a .page .now) (a .thresholds .now) (a .result .now) (a .syndrome .now) (a .difference .now) (sym (c .before .before .before .before .decode-answer .ensures) ∙ c .before .before .before .if1 .left)
+    decode-opens code (a .page .now) (a .thresholds .now) (a .result .now) (a .syndrome .now) (a .difference .now)
+    (sym (c .before .before .before .before .decode-answer .ensures) ∙ c .before .before .before .if1 .left)
 
 same-length : tie.Need-same-length
 same-length c = search needs
@@ -43,7 +45,9 @@ returns-2 : tie.Need-returns-2
 returns-2 c =
     let a = c .before .before .before .before .before .before .before .before .before .before .before .before .before .before .before .before .before .before .args in
     let code = codeOf (a .q) (a .k) (a .positions .now) in
-    let n : 0 ≡ decodeAnswer code (a .page .now) (a .thresholds .now) (length (a .result .now)) (length (a .syndrome .now)) (length (a .difference .now)) = sym (c .before .before .before .before .before .before .before .before .before .before .if1 .left) ∙ c .before .before .before .before .before .before .before .before .before .before .before .decode-answer .ensures in
+    let n : 0 ≡ decodeAnswer code (a .page .now) (a .thresholds .now) (length (a .result .now)) (length (a .syndrome .now)) (length (a .difference .now)) =
+    sym (c .before .before .before .before .before .before .before .before .before .before .if1 .left)
+    ∙ c .before .before .before .before .before .before .before .before .before .before .before .decode-answer .ensures in
     let e = c .before .before .before .before .before .before .decode-page .ensures in (
       decode-done code (a .page .now) (a .thresholds .now) (a .result .now) (a .syndrome .now) (a .difference .now) _ n e,
       (

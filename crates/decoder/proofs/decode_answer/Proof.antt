@@ -23,9 +23,12 @@ page-answer-requires c κs = search needs
 page-by : (p : tie.After-page-answer)
     → p .page-answer .result
     ≡ firstThatApplies (pageTests (codeOf (p .before .before .before .before .before .args .q) (p .before .before .before .before .before .args .k) (p .before .before .before .before .before .args .positions .now))
-    (eqb (length (p .before .before .before .before .before .args .page .now)) (p .before .before .before .before .before .args .k + p .before .before .before .before .before .args .k)
-    && stateFits (codeOf (p .before .before .before .before .before .args .q) (p .before .before .before .before .before .args .k) (p .before .before .before .before .before .args .positions .now))
-    (p .before .before .before .before .before .args .result) (p .before .before .before .before .before .args .syndrome) (p .before .before .before .before .before .args .difference))
+    (eqb (length (p .before .before .before .before .before .args .page .now))
+    (p .before .before .before .before .before .args .k + p .before .before .before .before .before .args .k)
+    && stateFits (codeOf (p .before .before .before .before .before .args .q) (p .before .before .before .before .before .args .k)
+    (p .before .before .before .before .before .args .positions .now))
+    (p .before .before .before .before .before .args .result) (p .before .before .before .before .before .args .syndrome)
+    (p .before .before .before .before .before .args .difference))
     (p .before .before .before .before .before .args .page .now))
 unfolding stateFits
 page-by p =
@@ -46,7 +49,8 @@ returns-2 c =
     let a = p .before .before .before .before .before .args in
     let code = codeOf (a .q) (a .k) (a .positions .now) in
     let e = page-by p in
-    sym (decode-taken code (a .page .now) (a .thresholds .now) (a .result) (a .syndrome) (a .difference) (sym e ∙ c .before .if1 .left) ∙ simp (within-below 1 64 (length (a .thresholds .now)) (c .if2 .taken)))
+    sym (decode-taken code (a .page .now) (a .thresholds .now) (a .result) (a .syndrome) (a .difference) (sym e ∙ c .before .if1 .left)
+    ∙ simp (within-below 1 64 (length (a .thresholds .now)) (c .if2 .taken)))
 
 returns-3 : tie.Need-returns-3
 returns-3 c =
@@ -54,7 +58,8 @@ returns-3 c =
     let a = p .before .before .before .before .before .args in
     let code = codeOf (a .q) (a .k) (a .positions .now) in
     let e = page-by p in
-    sym (decode-taken code (a .page .now) (a .thresholds .now) (a .result) (a .syndrome) (a .difference) (sym e ∙ c .before .before .if1 .left) ∙ simp (within-above 1 64 (length (a .thresholds .now)) (c .if3 .taken)))
+    sym (decode-taken code (a .page .now) (a .thresholds .now) (a .result) (a .syndrome) (a .difference) (sym e ∙ c .before .before .if1 .left)
+    ∙ simp (within-above 1 64 (length (a .thresholds .now)) (c .if3 .taken)))
 
 all-below-requires : tie.Need-all-below-requires
 all-below-requires c κs = search needs
@@ -66,7 +71,11 @@ returns-4 c =
     let code = codeOf (a .q) (a .k) (a .positions .now) in
     let e = page-by p in
     sym (decode-taken code (a .page .now) (a .thresholds .now) (a .result) (a .syndrome) (a .difference) (sym e ∙ c .before .before .before .before .if1 .left)
-    ∙ simp (within-make 1 64 (length (a .thresholds .now)) (omega arith) (omega arith), sym (c .before .all-below .ensures) ∙ not-true (c .before .all-below .result) (c .if4 .taken)))
+    ∙ simp (
+      within-make 1 64 (length (a .thresholds .now)) (omega arith) (omega arith),
+      sym (c .before .all-below .ensures)
+          ∙ not-true (c .before .all-below .result) (c .if4 .taken),
+    ))
 
 returns-5 : tie.Need-returns-5
 returns-5 c =
@@ -75,7 +84,11 @@ returns-5 c =
     let code = codeOf (a .q) (a .k) (a .positions .now) in
     let e = page-by p in
     sym (decode-taken code (a .page .now) (a .thresholds .now) (a .result) (a .syndrome) (a .difference) (sym e ∙ c .before .before .before .before .if1 .left)
-    ∙ simp (within-make 1 64 (length (a .thresholds .now)) (omega arith) (omega arith), sym (c .before .all-below .ensures) ∙ not-false (c .before .all-below .result) (c .if4 .left)))
+    ∙ simp (
+      within-make 1 64 (length (a .thresholds .now)) (omega arith) (omega arith),
+      sym (c .before .all-below .ensures)
+          ∙ not-false (c .before .all-below .result) (c .if4 .left),
+    ))
 
 pub decode-answer-spec : {M : Type 1} → statement M
 decode-answer-spec =

@@ -34,7 +34,8 @@ returns c =
     let o = c .before .before .before .before .before .before .before .before .before .open-page .ensures in
     rw (c .passed .ensures, c .before .opened .ensures)
     (both (o .0) refl
-    ∙ clean-decoded (codeOf (a .q) (a .k) (a .positions .now)) (a .page .now) (b .pre .0 .limits) (b .pre .0 .orthogonal) (b .pre .0 .whole) (sym (o .1) ∙ c .before .before .if1 .taken) (a .thresholds .now) (b .pre .1))
+    ∙ clean-decoded (codeOf (a .q) (a .k) (a .positions .now)) (a .page .now) (b .pre .0 .limits) (b .pre .0 .orthogonal) (b .pre .0 .whole)
+    (sym (o .1) ∙ c .before .before .if1 .taken) (a .thresholds .now) (b .pre .1))
 
 opened-requires-2 : tie.Need-opened-requires-2
 opened-requires-2 c κs = search needs
@@ -77,7 +78,8 @@ returns-2 c =
     let code = codeOf (a .q) (a .k) (a .positions .now) in
     rw (c .ended .ensures)
     (run-decoded code (a .page .now) _ _ _ (b .pre .0) (a .thresholds .now) _ _ _
-    (c .before .before .before .before .before .before .before .before .before .before .run .ensures ∙ ap (runOf code (a .thresholds .now)) (both (o .0) (c .before .before .before .before .before .before .before .before .before .before .before .opened2 .ensures)))
+    (c .before .before .before .before .before .before .before .before .before .before .run .ensures
+    ∙ ap (runOf code (a .thresholds .now)) (both (o .0) (c .before .before .before .before .before .before .before .before .before .before .before .opened2 .ensures)))
     (o .1) (c .before .state-weight .ensures))
 
 pub decode-page-spec : {M : Type 1} → statement M

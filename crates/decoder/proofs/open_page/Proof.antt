@@ -25,8 +25,12 @@ copy-into-requires c κs =
 write-syndrome-requires : tie.Need-write-syndrome-requires
 write-syndrome-requires c κs =
     let b = c .before .before .before .before .before .before .before .before .before .before .before in
-    let a = b .args in
-    (subst (λ (k : ℕ). Limits (codeOf (a .q) k (a .positions .now))) (sym (b .pre .len-syndrome)) (b .pre .limits), b .pre .whole .low, omega (arith, b .pre .whole .len, b .pre .len-syndrome))
+    let a = b .args in (
+      subst (λ (k : ℕ). Limits (codeOf (a .q) k (a .positions .now))) (sym (b .pre .len-syndrome)) (b .pre .limits),
+      b .pre .whole .low,
+      omega
+          (arith, b .pre .whole .len, b .pre .len-syndrome),
+    )
 
 clear-requires : tie.Need-clear-requires
 clear-requires c κs = search needs
@@ -48,8 +52,10 @@ returns c =
     let b = c .before .before .before .before .before .before .before .before .before .before .before .before .before .before .before .before .before .before .before .before in
     let a = b .args in
     let code = codeOf (a .q) (a .k) (a .positions .now) in
-    let s = c .before .before .before .before .before .before .before .before .write-syndrome .ensures ∙ ap (λ (k : ℕ). syndrome (codeOf (a .q) k (a .positions .now)) (a .page .now)) (b .pre .len-syndrome) in (
-      opened-by code (a .page .now) _ _ _ (c .before .before .before .before .before .before .before .before .before .before .before .before .copy-into .ensures) s (c .before .before .before .before .clear .ensures ∙ ap (λ (n : ℕ). tabulate n (λ i. 0)) (b .pre .len-difference)),
+    let s = c .before .before .before .before .before .before .before .before .write-syndrome .ensures
+    ∙ ap (λ (k : ℕ). syndrome (codeOf (a .q) k (a .positions .now)) (a .page .now)) (b .pre .len-syndrome) in (
+      opened-by code (a .page .now) _ _ _ (c .before .before .before .before .before .before .before .before .before .before .before .before .copy-into .ensures) s
+          (c .before .before .before .before .clear .ensures ∙ ap (λ (n : ℕ). tabulate n (λ i. 0)) (b .pre .len-difference)),
       c .weight-of .ensures ∙ ap weight s ∙ opened-distance code (a .page .now) (b .pre .limits) (b .pre .orthogonal) (b .pre .whole),
     )
 

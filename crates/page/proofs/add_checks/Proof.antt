@@ -104,7 +104,11 @@ same-length : tie.Need-same-length Inv-loop μ-loop
 same-length c =
     let i = c .before .before .before .before .before .before .before .loop in
     let b = c .before .before .before .before .before .before .before .before .before .before .before in
-    omega (arith, one-length (b .args .q) (take (i .n) (b .args .positions .now)) (take 1 (b .args .positions .now)) (b .args .«data» .now) (i .checks) (b .args .checks .now) (i .inv .1) (b .pre .2))
+    omega (
+      arith,
+      one-length (b .args .q) (take (i .n) (b .args .positions .now)) (take 1 (b .args .positions .now)) (b .args .«data» .now) (i .checks)
+          (b .args .checks .now) (i .inv .1) (b .pre .2),
+    )
 
 returns : tie.Need-returns Inv-loop μ-loop
 returns c =
@@ -119,7 +123,11 @@ same-length-2 : tie.Need-same-length-2 Inv-loop μ-loop
 same-length-2 c =
     let i = c .before .before .loop in
     let b = c .before .before .before .before .before .before in
-    omega (arith, one-length (b .args .q) (take (i .n) (b .args .positions .now)) (take 1 (b .args .positions .now)) (b .args .«data» .now) (i .checks) (b .args .checks .now) (i .inv .1) (b .pre .2))
+    omega (
+      arith,
+      one-length (b .args .q) (take (i .n) (b .args .positions .now)) (take 1 (b .args .positions .now)) (b .args .«data» .now) (i .checks)
+          (b .args .checks .now) (i .inv .1) (b .pre .2),
+    )
 
 returns-2 : tie.Need-returns-2 Inv-loop μ-loop
 returns-2 c =

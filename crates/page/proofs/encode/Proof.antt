@@ -34,7 +34,8 @@ returns c =
 write-page-requires : tie.Need-write-page-requires
 write-page-requires c κs =
     let a = c .before .before .before .before .before .before .before .args in
-    let f = accepted-call (a .q) (a .k) (a .positions .now) (a .«data» .now) _ (length (a .«data» .now)) (a .k) (length (a .page .now)) (a .k + a .k) _ (c .before .before .page-answer .ensures) (c .before .if1 .left)
+    let f = accepted-call (a .q) (a .k) (a .positions .now) (a .«data» .now) _ (length (a .«data» .now)) (a .k) (length (a .page .now)) (a .k + a .k) _
+    (c .before .before .page-answer .ensures) (c .before .if1 .left)
     (c .before .before .before .two-fit .ensures) in
     (subst (λ (k : ℕ). Limits (codeOf (a .q) k (a .positions .now))) (sym (f .2)) (f .0), f .1, omega (arith, f .2, f .3))
 
@@ -48,11 +49,13 @@ returns-2 c =
     let p = c .before .before .before .before .before in
     let u = a .«data» .now in
     let code = codeOf (a .q) (a .k) (a .positions .now) in
-    let f = accepted-call (a .q) (a .k) (a .positions .now) u _ (length u) (a .k) (length (a .page .now)) (a .k + a .k) _ (p .page-answer .ensures) (c .before .before .before .before .if1 .left)
+    let f = accepted-call (a .q) (a .k) (a .positions .now) u _ (length u) (a .k) (length (a .page .now)) (a .k + a .k) _ (p .page-answer .ensures)
+    (c .before .before .before .before .if1 .left)
     (p .before .two-fit .ensures) in
     let n : 0 ≡ firstThatApplies (pageTests code (eqb (length u) (a .k) && eqb (length (a .page .now)) (a .k + a .k)) u) =
     sym (c .before .before .before .before .if1 .left) ∙ p .page-answer .ensures ∙ ap (λ (b : Bool). firstThatApplies (pageTests code b u)) (p .before .two-fit .ensures) in
-    let w : c .before .before .write-page .last .1 .1 .1 .0 ≡ codeWord code u = c .before .before .write-page .ensures ∙ ap (λ (k : ℕ). codeWord (codeOf (a .q) k (a .positions .now)) u) (f .2) in (
+    let w : c .before .before .write-page .last .1 .1 .1 .0 ≡ codeWord code u =
+    c .before .before .write-page .ensures ∙ ap (λ (k : ℕ). codeWord (codeOf (a .q) k (a .positions .now)) u) (f .2) in (
       written-done _ _ _ _ n w,
       λ e. (sym (n ∙ ap (λ (l : ℕ). firstThatApplies (pageTests code (eqb (length u) (a .k) && eqb l (a .k + a .k)) u)) (f .3)), w),
     )

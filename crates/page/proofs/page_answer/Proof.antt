@@ -29,13 +29,21 @@ returns-3 : tie.Need-returns-3
 returns-3 c =
     let e = c .before .before .before .before .check-table .ensures in
     sym (page-taken _ _ _ (sym e ∙ c .before .before .before .if1 .left)
-    ∙ simp (not-false (c .before .before .before .before .before .before .before .args .fits) (c .before .before .if2 .left), sym (c .before .all-below .ensures) ∙ not-true (c .before .all-below .result) (c .if3 .taken)))
+    ∙ simp (
+      not-false (c .before .before .before .before .before .before .before .args .fits) (c .before .before .if2 .left),
+      sym (c .before .all-below .ensures)
+          ∙ not-true (c .before .all-below .result) (c .if3 .taken),
+    ))
 
 returns-4 : tie.Need-returns-4
 returns-4 c =
     let e = c .before .before .before .before .check-table .ensures in
     sym (page-taken _ _ _ (sym e ∙ c .before .before .before .if1 .left)
-    ∙ simp (not-false (c .before .before .before .before .before .before .before .args .fits) (c .before .before .if2 .left), sym (c .before .all-below .ensures) ∙ not-false (c .before .all-below .result) (c .if3 .left)))
+    ∙ simp (
+      not-false (c .before .before .before .before .before .before .before .args .fits) (c .before .before .if2 .left),
+      sym (c .before .all-below .ensures)
+          ∙ not-false (c .before .all-below .result) (c .if3 .left),
+    ))
 
 pub page-answer-spec : {M : Type 1} → statement M
 page-answer-spec = tie.close (tie.spec check-table-requires returns returns-2 all-below-requires returns-3 returns-4)

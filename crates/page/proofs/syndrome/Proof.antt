@@ -31,7 +31,8 @@ returns c =
 write-syndrome-requires : tie.Need-write-syndrome-requires
 write-syndrome-requires c κs =
     let a = c .before .before .before .before .before .before .before .args in
-    let f = accepted-call (a .q) (a .k) (a .positions .now) (a .page .now) _ (length (a .page .now)) (a .k + a .k) (length (a .s .now)) (a .k) _ (c .before .before .page-answer .ensures) (c .before .if1 .left)
+    let f = accepted-call (a .q) (a .k) (a .positions .now) (a .page .now) _ (length (a .page .now)) (a .k + a .k) (length (a .s .now)) (a .k) _
+    (c .before .before .page-answer .ensures) (c .before .if1 .left)
     (c .before .before .before .two-fit .ensures) in
     (subst (λ (k : ℕ). Limits (codeOf (a .q) k (a .positions .now))) (sym (f .3)) (f .0), f .1, omega (arith, f .2, f .3))
 
@@ -43,7 +44,8 @@ unfolding syndromeOutcome syndromeAnswer
 returns-2 c =
     let a = c .before .before .before .before .before .before .before .before .before .before .args in
     let p = c .before .before .before .before .before in
-    let f = accepted-call (a .q) (a .k) (a .positions .now) (a .page .now) _ (length (a .page .now)) (a .k + a .k) (length (a .s .now)) (a .k) _ (p .page-answer .ensures) (c .before .before .before .before .if1 .left)
+    let f = accepted-call (a .q) (a .k) (a .positions .now) (a .page .now) _ (length (a .page .now)) (a .k + a .k) (length (a .s .now)) (a .k) _
+    (p .page-answer .ensures) (c .before .before .before .before .if1 .left)
     (p .before .two-fit .ensures) in
     written-done _ _ _ _
     (sym (c .before .before .before .before .if1 .left) ∙ p .page-answer .ensures

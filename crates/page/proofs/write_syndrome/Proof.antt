@@ -20,8 +20,12 @@ write-checks-requires : tie.Need-write-checks-requires
 write-checks-requires c κs =
     let b = c .before .before .before .before .before in
     let a = b .args in
-    let e : length (take (length (a .s .now)) (a .page .now)) ≡ length (a .s .now) = length-take-le (length (a .s .now)) (a .page .now) (omega arith) in
-    (subst (λ (k : ℕ). Limits (codeOf (a .q) k (a .positions .now))) (sym e) (b .pre .0), below-take (a .q) (omega (arith, b .pre .0 .q-low)) (length (a .s .now)) (a .page .now) (b .pre .1), sym e)
+    let e : length (take (length (a .s .now)) (a .page .now)) ≡ length (a .s .now) = length-take-le (length (a .s .now)) (a .page .now) (omega arith) in (
+      subst (λ (k : ℕ). Limits (codeOf (a .q) k (a .positions .now))) (sym e) (b .pre .0),
+      below-take (a .q) (omega (arith, b .pre .0 .q-low)) (length (a .s .now))
+          (a .page .now) (b .pre .1),
+      sym e,
+    )
 
 sub-sub-into : tie.Need-sub-sub-into
 sub-sub-into c = search needs
@@ -36,7 +40,8 @@ sub-into-requires : tie.Need-sub-into-requires
 sub-into-requires c κs =
     let b = c .before .before .before .before .before .before .before .before .before .before in
     let a = b .args in
-    let f = checks-subtractable (a .q) (length (a .s .now)) (a .positions .now) (a .page .now) _ (omega (arith, b .pre .0 .q-low)) (b .pre .2) (c .before .before .before .before .write-checks .ensures) in
+    let f = checks-subtractable (a .q) (length (a .s .now)) (a .positions .now) (a .page .now) _ (omega (arith, b .pre .0 .q-low)) (b .pre .2)
+    (c .before .before .before .before .write-checks .ensures) in
     (omega (arith, b .pre .0 .q-low), b .pre .0 .q-high, f .0, f .1, f .2 (b .pre .1))
 
 same-length : tie.Need-same-length
@@ -47,7 +52,8 @@ returns c =
     let b = c .before .before .before .before .before .before .before .before .before .before .before .before .before in
     let a = b .args in
     c .before .before .sub-into .ensures
-    ∙ syndrome-written (a .q) (length (a .s .now)) (a .positions .now) (a .page .now) _ (omega (arith, b .pre .0 .q-low)) (b .pre .2) (c .before .before .before .before .before .before .before .write-checks .ensures)
+    ∙ syndrome-written (a .q) (length (a .s .now)) (a .positions .now) (a .page .now) _ (omega (arith, b .pre .0 .q-low)) (b .pre .2)
+    (c .before .before .before .before .before .before .before .write-checks .ensures)
 
 pub write-syndrome-spec : {M : Type 1} → statement M
 write-syndrome-spec =

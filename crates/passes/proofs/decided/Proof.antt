@@ -26,7 +26,12 @@ returns c =
     let a = b .args in
     subtract-left (a .threshold) (a .es .now)
     (no-change-by (a .threshold) (a .es .now)
-    (omega (arith, b .pre .2, nltb→le (a .zeros + a .threshold) (leadCount (a .es .now)) (subst (λ (w : Bool). T (not w)) (sym (not-true (c .before .lead-above .result) (c .if1 .taken)) ∙ c .before .lead-above .ensures) tt))))
+    (omega (
+      arith,
+      b .pre .2,
+      nltb→le (a .zeros + a .threshold) (leadCount (a .es .now))
+          (subst (λ (w : Bool). T (not w)) (sym (not-true (c .before .lead-above .result) (c .if1 .taken)) ∙ c .before .lead-above .ensures) tt),
+    )))
 
 vote-over-requires : tie.Need-vote-over-requires
 vote-over-requires c κs = search needs

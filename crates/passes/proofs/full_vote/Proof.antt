@@ -37,13 +37,15 @@ decided-requires : tie.Need-decided-requires
 decided-requires c κs =
     let b = c .before .before .before .before .before .before in
     let a = b .args in
-    let w = gathered-within _ _ _ _ (c .before .before .gather .ensures) (estimates-length (a .own) (a .s .now) (a .k) (a .positions .now) (a .j)) 2 33 (omega arith) (omega arith) in
+    let w = gathered-within _ _ _ _ (c .before .before .gather .ensures) (estimates-length (a .own) (a .s .now) (a .k) (a .positions .now) (a .j)) 2 33 (omega arith)
+    (omega arith) in
     (w .0, w .1, b .pre .2 ∙ sym (ap (λ (l : List ℕ). count 0 l) (gathered _ _ _ _ (c .before .before .gather .ensures) (estimates-length (a .own) (a .s .now) (a .k) (a .positions .now) (a .j)))), b .pre .3)
 
 returns : tie.Need-returns
 returns c =
     let a = c .before .before .before .before .before .before .before .args in
-    c .decided .ensures ∙ ap (λ (l : List ℕ). toSubtract (a .threshold) l) (gathered _ _ _ _ (c .before .before .before .gather .ensures) (estimates-length (a .own) (a .s .now) (a .k) (a .positions .now) (a .j)))
+    c .decided .ensures ∙ ap (λ (l : List ℕ). toSubtract (a .threshold) l)
+    (gathered _ _ _ _ (c .before .before .before .gather .ensures) (estimates-length (a .own) (a .s .now) (a .k) (a .positions .now) (a .j)))
 
 pub full-vote-spec : {M : Type 1} → statement M
 full-vote-spec =

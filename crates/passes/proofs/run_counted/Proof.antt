@@ -24,7 +24,8 @@ Inv-loop q k positions thresholds result₀ syndrome₀ difference₀ zeros₀ n
     (p ≤ n)
     × (zeros ≡ zeroCounts k positions syndrome)
     × Kept (codeOf q k positions) (4096 * p) (progress result₀ syndrome₀ difference₀ tally₀) (progress result syndrome difference tally)
-    × (passesFrom (codeOf q k positions) p (drop p thresholds) (progress result syndrome difference tally) ≡ passesFrom (codeOf q k positions) 0 thresholds (progress result₀ syndrome₀ difference₀ tally₀))
+    × (passesFrom (codeOf q k positions) p (drop p thresholds) (progress result syndrome difference tally)
+    ≡ passesFrom (codeOf q k positions) 0 thresholds (progress result₀ syndrome₀ difference₀ tally₀))
 
 abbrev μ-loop : tie.MeasureT-loop
 μ-loop q k positions thresholds result₀ syndrome₀ difference₀ zeros₀ n tally₀ p₀ result syndrome difference zeros tally p = n - p
@@ -76,7 +77,8 @@ loop-again c =
       omega arith,
       i .inv .2,
       record { ready = k .ready; few = omega (arith, k .few, o .inv .2 .few, k .ready .limits .k-high) },
-      sym (pass-go (codeOf (a .q) (a .k) (a .positions .now)) (o .p) (i .j) (a .thresholds .now) x (progress (i .result) (i .syndrome) (i .difference) (i .tally)) (omega arith) h (i .inv .1) (c .if2 .left))
+      sym (pass-go (codeOf (a .q) (a .k) (a .positions .now)) (o .p) (i .j) (a .thresholds .now) x (progress (i .result) (i .syndrome) (i .difference) (i .tally))
+          (omega arith) h (i .inv .1) (c .if2 .left))
           ∙ o .inv .3,
     )
 
@@ -88,8 +90,13 @@ record Done (c : Code) (thresholds zeros : List ℕ) (p x : Progress) (n : ℕ) 
   counted : length zeros ≡ c .k
 
 done : (c : tie.Joined1 Inv-loop2 μ-loop2 Inv-loop μ-loop)
-    → Done (codeOf (c .before .before .before .before .before .before .before .before .args .q) (c .before .before .before .before .before .before .before .before .args .k) (c .before .before .before .before .before .before .before .before .args .positions .now)) (c .before .before .before .before .before .before .before .before .args .thresholds .now) (c .if1 .zeros)
-    (progress (c .before .before .before .before .before .before .before .before .args .result .now) (c .before .before .before .before .before .before .before .before .args .syndrome .now) (c .before .before .before .before .before .before .before .before .args .difference .now) (c .before .before .before .before .before .before .before .before .args .opened))
+    → Done (codeOf (c .before .before .before .before .before .before .before .before .args .q)
+    (c .before .before .before .before .before .before .before .before .args .k)
+    (c .before .before .before .before .before .before .before .before .args .positions .now)) (c .before .before .before .before .before .before .before .before .args .thresholds .now) (c .if1 .zeros)
+    (progress (c .before .before .before .before .before .before .before .before .args .result .now)
+    (c .before .before .before .before .before .before .before .before .args .syndrome .now)
+    (c .before .before .before .before .before .before .before .before .args .difference .now)
+    (c .before .before .before .before .before .before .before .before .args .opened))
     (progress (c .if1 .result) (c .if1 .syndrome) (c .if1 .difference) (c .if1 .tally)) (c .if1 .passes)
 done c =
     let o = c .before .loop in
@@ -111,7 +118,8 @@ done c =
     record {
       few = omega arith;
       ready = k .ready;
-      ran = sym (pass-stop code (o .p) (i .j) (a .thresholds .now) x (progress (i .result) (i .syndrome) (i .difference) (i .tally)) (omega arith) h (i .inv .1) (w .5 .taken)) ∙ o .inv .3;
+      ran = sym (pass-stop code (o .p) (i .j) (a .thresholds .now) x (progress (i .result) (i .syndrome) (i .difference) (i .tally)) (omega arith) h (i .inv .1)
+          (w .5 .taken)) ∙ o .inv .3;
       counted = ap length (i .inv .2) ∙ length-zeroCounts (a .k) (a .positions .now) (i .syndrome);
     }))
     (c .if1 .came)
@@ -126,10 +134,12 @@ same-length : tie.Need-same-length Inv-loop2 μ-loop2 Inv-loop μ-loop
 same-length c = let d = done (c .before .before) in let e = c .before .before .before .before .before .before .before .before .before .before .pre .0 in omega (arith, d .ready .sized .len-result, e .sized .len-result)
 
 same-length-2 : tie.Need-same-length-2 Inv-loop2 μ-loop2 Inv-loop μ-loop
-same-length-2 c = let d = done (c .before .before) in let e = c .before .before .before .before .before .before .before .before .before .before .pre .0 in omega (arith, d .ready .sized .len-syndrome, e .sized .len-syndrome)
+same-length-2 c = let d = done (c .before .before) in let e =
+    c .before .before .before .before .before .before .before .before .before .before .pre .0 in omega (arith, d .ready .sized .len-syndrome, e .sized .len-syndrome)
 
 same-length-3 : tie.Need-same-length-3 Inv-loop2 μ-loop2 Inv-loop μ-loop
-same-length-3 c = let d = done (c .before .before) in let e = c .before .before .before .before .before .before .before .before .before .before .pre .0 in omega (arith, d .ready .sized .len-difference, e .sized .len-difference)
+same-length-3 c = let d = done (c .before .before) in let e =
+    c .before .before .before .before .before .before .before .before .before .before .pre .0 in omega (arith, d .ready .sized .len-difference, e .sized .len-difference)
 
 same-length-4 : tie.Need-same-length-4 Inv-loop2 μ-loop2 Inv-loop μ-loop
 same-length-4 c =

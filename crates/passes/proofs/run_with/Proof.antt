@@ -13,14 +13,22 @@ use Rattle.passes.proofs.run_with.Tie as tie
 count-zeros-requires : tie.Need-count-zeros-requires
 count-zeros-requires c κs =
     let b = c .before .before .before .before .before .before .before .before in
-    let a = b .args in
-    (subst (λ (k : ℕ). AllChecks k (a .positions .now) (a .syndrome .now)) (sym (b .pre .0 .sized .len-syndrome)) (all-checks-of _ _ (b .pre .0)), b .pre .3 ∙ sym (b .pre .0 .sized .len-syndrome))
+    let a = b .args in (
+      subst (λ (k : ℕ). AllChecks k (a .positions .now) (a .syndrome .now)) (sym (b .pre .0 .sized .len-syndrome)) (all-checks-of _ _ (b .pre .0)),
+      b .pre .3
+          ∙ sym (b .pre .0 .sized .len-syndrome),
+    )
 
 run-counted-requires : tie.Need-run-counted-requires
 run-counted-requires c κs =
     let b = c .before .before .before .before .before .before .before .before .before .before .before .before .before .before .before in
-    let a = b .args in
-    (b .pre .0, b .pre .1, b .pre .2, c .before .before .before .before .before .before .count-zeros .ensures ∙ ap (λ (k : ℕ). zeroCounts k (a .positions .now) (a .syndrome .now)) (b .pre .0 .sized .len-syndrome))
+    let a = b .args in (
+      b .pre .0,
+      b .pre .1,
+      b .pre .2,
+      c .before .before .before .before .before .before .count-zeros .ensures
+          ∙ ap (λ (k : ℕ). zeroCounts k (a .positions .now) (a .syndrome .now)) (b .pre .0 .sized .len-syndrome),
+    )
 
 same-length : tie.Need-same-length
 same-length c = search needs

@@ -61,8 +61,11 @@ slice-write-result c = search needs
 
 sub-mod-requires-2 : tie.Need-sub-mod-requires-2
 sub-mod-requires-2 c κs =
-    let b = c .before .before .before .before .before .before .before .before .before .before .before .before in
-    (omega (arith, b .pre .0 .sized .in-difference (b .args .j)), omega (arith, c .before .before .before .voted .ensures, ready-subtract _ _ (b .pre .0) (b .args .threshold) (b .args .j)))
+    let b = c .before .before .before .before .before .before .before .before .before .before .before .before in (
+      omega (arith, b .pre .0 .sized .in-difference (b .args .j)),
+      omega
+          (arith, c .before .before .before .voted .ensures, ready-subtract _ _ (b .pre .0) (b .args .threshold) (b .args .j)),
+    )
 
 slice-write-difference : tie.Need-slice-write-difference
 slice-write-difference c = search needs
@@ -98,8 +101,10 @@ returns-2 c =
     let e : a .q - 1 + 1 ≡ a .q = omega arith in
     let s = c .before .before .before .before .before .subtract-checks .ensures in (
       rw (c .before .before .before .before .before .before .before .before .before .sub-mod .ensures, c .before .before .before .before .before .before .before .before .sub-mod2 .ensures, s .0, c .changed .ensures, e)
-          (visit-made (codeOf (a .q) (a .k) (a .positions .now)) (record { symbol = a .j; threshold = a .threshold }) (a .result .now) (a .syndrome .now) (a .difference .now) (a .tally) (c .before .before .before .before .before .before .before .before .before .before .before .before .voted .result)
-          (c .before .before .before .before .before .before .before .before .before .before .before .before .voted .ensures) (c .before .before .before .before .before .before .before .before .before .before .before .if1 .left)),
+          (visit-made (codeOf (a .q) (a .k) (a .positions .now)) (record { symbol = a .j; threshold = a .threshold }) (a .result .now) (a .syndrome .now)
+          (a .difference .now) (a .tally) (c .before .before .before .before .before .before .before .before .before .before .before .before .voted .result)
+          (c .before .before .before .before .before .before .before .before .before .before .before .before .voted .ensures)
+          (c .before .before .before .before .before .before .before .before .before .before .before .if1 .left)),
       s .1,
     )
 

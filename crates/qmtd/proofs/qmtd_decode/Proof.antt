@@ -62,7 +62,8 @@ returns-2 c =
     let a = p .before .before .before .before .before .before .before .before .before .before .before .before .before .before .before .before .args in
     let e = p .before .before .before .before .before .before .before .read-positions .ensures .1 in
     let lent : State = record { result = a .result .now; syndrome = a .syndrome .now; difference = a .difference .now } in (
-      decode-left (codeOf (a .q) (a .k) _) (a .page .now) (a .thresholds .now) lent (a .counts .now) (p .before .before .before .before .before .if1 .left) _ (p .decode .ensures .0) (c .if2 .taken)
+      decode-left (codeOf (a .q) (a .k) _) (a .page .now) (a .thresholds .now) lent (a .counts .now) (p .before .before .before .before .before .if1 .left) _
+          (p .decode .ensures .0) (c .if2 .taken)
           ∙ decode-read (a .q) (a .k) _ (positionsOf (a .table .now)) e (a .page .now) (a .thresholds .now) lent (a .counts .now),
       (λ z. absurd (c .if2 .taken z), λ z. absurd (c .if2 .taken z)),
     )
@@ -90,7 +91,8 @@ returns-3 c =
     let z = c .before .before .before .before .before .if2 .left in
     let lent : State = record { result = a .result .now; syndrome = a .syndrome .now; difference = a .difference .now } in
     let same = decoded-read (a .q) (a .k) _ (positionsOf (a .table .now)) e (a .page .now) (a .thresholds .now) lent _ (p .decode .ensures .0) z in (
-      decode-done (codeOf (a .q) (a .k) _) (a .page .now) (a .thresholds .now) lent (a .counts .now) (p .before .before .before .before .before .if1 .left) _ (p .decode .ensures .0) z _ (c .before .before .put-counts .ensures)
+      decode-done (codeOf (a .q) (a .k) _) (a .page .now) (a .thresholds .now) lent (a .counts .now) (p .before .before .before .before .before .if1 .left) _
+          (p .decode .ensures .0) z _ (c .before .before .put-counts .ensures)
           ∙ decode-read (a .q) (a .k) _ (positionsOf (a .table .now)) e (a .page .now) (a .thresholds .now) lent (a .counts .now),
       (
         λ _. subst (λ (l : List ℕ). RunFalls (codeOf (a .q) (a .k) l) (a .thresholds .now) (a .page .now)) same (p .decode .ensures .1 .0 z),

@@ -51,7 +51,8 @@ loop-again c =
     let table = c .before .before .before .before .before .before .before .before .args .table .now in (
       omega arith,
       simp length-set (l .inv .1),
-      ap (λ (x : ℕ). take ((l .i + 1) / 2) (set (l .positions) (l .i / 2) x)) (c .position .ensures) ∙ byte-turn table (l .positions) (l .i) (l .last) (omega arith) (l .inv .2) (l .inv .3),
+      ap (λ (x : ℕ). take ((l .i + 1) / 2) (set (l .positions) (l .i / 2) x)) (c .position .ensures)
+          ∙ byte-turn table (l .positions) (l .i) (l .last) (omega arith) (l .inv .2) (l .inv .3),
       λ _. ap (λ (n : ℕ). getD table n 0) (omega arith),
     )
 

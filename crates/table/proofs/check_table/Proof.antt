@@ -50,12 +50,22 @@ self-orthogonal-requires c κs = (omega arith, omega arith, sym (c .before .posi
 returns-8 : tie.Need-returns-8
 returns-8 c =
     let x = c .before .before .before .before .before .before .before .before .before .before .before .args in
-    simp (sized-answer (codeOf (x .q) (x .k) (x .positions .now)) (omega arith), sym (c .before .before .before .positions-fit .ensures) ∙ not-false _ (c .before .before .if7 .left), sym (c .before .self-orthogonal .ensures (x .q)) ∙ not-true _ (c .if8 .taken))
+    simp (
+      sized-answer (codeOf (x .q) (x .k) (x .positions .now)) (omega arith),
+      sym (c .before .before .before .positions-fit .ensures)
+          ∙ not-false _ (c .before .before .if7 .left),
+      sym (c .before .self-orthogonal .ensures (x .q)) ∙ not-true _ (c .if8 .taken),
+    )
 
 returns-9 : tie.Need-returns-9
 returns-9 c =
     let x = c .before .before .before .before .before .before .before .before .before .before .before .args in
-    simp (sized-answer (codeOf (x .q) (x .k) (x .positions .now)) (omega arith), sym (c .before .before .before .positions-fit .ensures) ∙ not-false _ (c .before .before .if7 .left), sym (c .before .self-orthogonal .ensures (x .q)) ∙ not-false _ (c .if8 .left))
+    simp (
+      sized-answer (codeOf (x .q) (x .k) (x .positions .now)) (omega arith),
+      sym (c .before .before .before .positions-fit .ensures)
+          ∙ not-false _ (c .before .before .if7 .left),
+      sym (c .before .self-orthogonal .ensures (x .q)) ∙ not-false _ (c .if8 .left),
+    )
 
 pub check-table-spec : {M : Type 1} → statement M
 check-table-spec =

@@ -55,8 +55,11 @@ mark-from-requires : tie.Need-mark-from-requires Inv-loop μ-loop
 mark-from-requires c κs =
     let b = c .before .before .before .before in
     let h = b .before in
-    let s = h .before .before .before in
-    (rw (part-rest (s .args .positions .now) (b .loop .i + 1)) (fit-later _ _ _ (s .pre .1) (b .loop .i) (omega arith)), omega (arith, length-set (s .args .seen .now) (s .args .k / 2) (h .is-half .result)))
+    let s = h .before .before .before in (
+      rw (part-rest (s .args .positions .now) (b .loop .i + 1)) (fit-later _ _ _ (s .pre .1) (b .loop .i) (omega arith)),
+      omega
+          (arith, length-set (s .args .seen .now) (s .args .k / 2) (h .is-half .result)),
+    )
 
 same-length : tie.Need-same-length Inv-loop μ-loop
 same-length c =
@@ -71,7 +74,8 @@ returns c =
     let h = b .before in
     let s = h .before .before .before in
     let ps : List ℕ = s .args .positions .now in
-    let marked = c .before .before .before .mark-from .ensures ∙ ap (λ (l : List ℕ). mark (foldedFrom (s .args .k) (getD ps (b .loop .i) 0) l) (b .loop .seen)) (part-rest ps (b .loop .i + 1)) in
+    let marked = c .before .before .before .mark-from .ensures
+    ∙ ap (λ (l : List ℕ). mark (foldedFrom (s .args .k) (getD ps (b .loop .i) 0) l) (b .loop .seen)) (part-rest ps (b .loop .i + 1)) in
     marks-tell (s .args .k) (s .args .positions .now) (s .pre .0) (s .pre .1) _ (simp length-set (s .pre .2))
     (half-flag (s .args .k) (s .args .seen .now) (h .is-half .result) (h .is-half .ensures) (s .pre .2) (s .pre .3)) _ _
     (sym (marks-stop (s .args .k) ps (b .loop .i) (b .loop .seen) (omega arith) _ _ marked (not-true _ (c .if1 .taken))) ∙ b .loop .inv .2)
@@ -85,7 +89,8 @@ loop-again c =
     let h = b .before in
     let s = h .before .before .before in
     let ps : List ℕ = s .args .positions .now in
-    let marked = c .before .before .before .mark-from .ensures ∙ ap (λ (l : List ℕ). mark (foldedFrom (s .args .k) (getD ps (b .loop .i) 0) l) (b .loop .seen)) (part-rest ps (b .loop .i + 1)) in
+    let marked = c .before .before .before .mark-from .ensures
+    ∙ ap (λ (l : List ℕ). mark (foldedFrom (s .args .k) (getD ps (b .loop .i) 0) l) (b .loop .seen)) (part-rest ps (b .loop .i + 1)) in
     (omega arith, search needs, sym (marks-go (s .args .k) ps (b .loop .i) (b .loop .seen) (omega arith) _ _ marked (not-false _ (c .if1 .left))) ∙ b .loop .inv .2)
 
 same-length-2 : tie.Need-same-length-2 Inv-loop μ-loop

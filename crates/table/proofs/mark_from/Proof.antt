@@ -45,7 +45,8 @@ returns : tie.Need-returns Inv-loop μ-loop
 returns c =
     let b = c .before .before .before .before .before in
     let x = b .before .before .before .args in
-    let turn = from-turn (x .k) (x .b) (x .later .now) (b .loop .l) (omega arith) ∙ ap (λ (v : ℕ). v ∷ foldedFrom (x .k) (x .b) (drop (b .loop .l + 1) (x .later .now))) (sym (c .before .before .folded .ensures)) in
+    let turn = from-turn (x .k) (x .b) (x .later .now) (b .loop .l) (omega arith)
+    ∙ ap (λ (v : ℕ). v ∷ foldedFrom (x .k) (x .b) (drop (b .loop .l + 1) (x .later .now))) (sym (c .before .before .folded .ensures)) in
     sym (ap (λ (vs : List ℕ). mark vs (b .loop .seen)) turn ∙ mark-again _ _ _ (c .if1 .taken)) ∙ b .loop .inv .2
 
 slice-write-seen : tie.Need-slice-write-seen Inv-loop μ-loop
@@ -61,7 +62,8 @@ loop-again : tie.Need-loop-again Inv-loop μ-loop
 loop-again c =
     let b = c .before .before .before .before .before in
     let x = b .before .before .before .args in
-    let turn = from-turn (x .k) (x .b) (x .later .now) (b .loop .l) (omega arith) ∙ ap (λ (v : ℕ). v ∷ foldedFrom (x .k) (x .b) (drop (b .loop .l + 1) (x .later .now))) (sym (c .before .before .folded .ensures)) in
+    let turn = from-turn (x .k) (x .b) (x .later .now) (b .loop .l) (omega arith)
+    ∙ ap (λ (v : ℕ). v ∷ foldedFrom (x .k) (x .b) (drop (b .loop .l + 1) (x .later .now))) (sym (c .before .before .folded .ensures)) in
     (omega arith, simp length-set (b .loop .inv .1), sym (ap (λ (vs : List ℕ). mark vs (b .loop .seen)) turn ∙ mark-new _ _ _ _ (omega arith) (c .if1 .left)) ∙ b .loop .inv .2)
 
 same-length-2 : tie.Need-same-length-2 Inv-loop μ-loop

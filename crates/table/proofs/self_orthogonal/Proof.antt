@@ -13,7 +13,8 @@ differences-differ-requires : tie.Need-differences-differ-requires
 differences-differ-requires c κs = let s = c .before .before .before in (omega arith, s .pre .2, omega arith, cleared 33)
 
 returns : tie.Need-returns
-returns c = let s = c .before .before .before .before .before in orthogonal-told (s .args .k) (s .args .positions .now) (s .pre .0) (s .pre .2) _ (c .before .differences-differ .ensures)
+returns c = let s = c .before .before .before .before .before in
+    orthogonal-told (s .args .k) (s .args .positions .now) (s .pre .0) (s .pre .2) _ (c .before .differences-differ .ensures)
 
 slice-aggregate-differences-differ-2 : tie.Need-slice-aggregate-differences-differ-2
 slice-aggregate-differences-differ-2 c = search needs

@@ -32,7 +32,8 @@ returns-4 : tie.Need-returns-4
 returns-4 c =
     let s = c .before .before .before .before .before .before .before .before .before .before in
     let n = c .before .before .before .before .before .before .count-equal in
-    lead-taken (s .args .es .now) (s .args .a) (s .args .best .value) (n .result) (n .ensures) (tie-before (s .args .es .now) (s .args .a) (s .args .best .value) (omega arith) (omega arith))
+    lead-taken (s .args .es .now) (s .args .a) (s .args .best .value) (n .result) (n .ensures)
+    (tie-before (s .args .es .now) (s .args .a) (s .args .best .value) (omega arith) (omega arith))
 
 returns-5 : tie.Need-returns-5
 returns-5 c =

@@ -63,7 +63,8 @@ loop-again c =
     let es : List ℕ = b .loop .es in (
       omega arith,
       length-set es (b .loop .i + 1) _ ∙ b .loop .inv .1,
-      gather-turn (a .syndrome .now) (a .k) (a .positions .now) (a .j) (a .own) (b .loop .i) (c .before .wrapped .result) es (omega arith) (omega arith) (c .before .wrapped .ensures) (b .loop .inv .2),
+      gather-turn (a .syndrome .now) (a .k) (a .positions .now) (a .j) (a .own) (b .loop .i) (c .before .wrapped .result) es (omega arith) (omega arith)
+          (c .before .wrapped .ensures) (b .loop .inv .2),
     )
 
 same-length : tie.Need-same-length Inv-loop μ-loop

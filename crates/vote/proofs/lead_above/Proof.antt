@@ -46,7 +46,8 @@ loop-again c =
     let b = c .before .before .before in
     let x = b .before .args in (
       omega arith,
-      counted-more (x .bound) (x .es .now) (b .loop .i) (b .loop .counters) (b .loop .inv .1) (omega arith) (omega (arith, c .before .shared-slice-known .given (b .loop .i))) (omega arith),
+      counted-more (x .bound) (x .es .now) (b .loop .i) (b .loop .counters) (b .loop .inv .1) (omega arith)
+          (omega (arith, c .before .shared-slice-known .given (b .loop .i))) (omega arith),
     )
 
 returns-2 : tie.Need-returns-2 Inv-loop μ-loop

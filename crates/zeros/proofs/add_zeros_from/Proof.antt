@@ -35,7 +35,8 @@ slice-relend-prefix-add-zeros c = search needs
 
 slice-aggregate-add-zeros-2 : tie.Need-slice-aggregate-add-zeros-2
 slice-aggregate-add-zeros-2 c =
-    let a = c .before .before .before .before .before .before .before .before .args in sym (lead-length (length (a .src .now) - a .p) (a .acc .now) (omega arith) (c .before .before .before .add-zeros .last .0))
+    let a = c .before .before .before .before .before .before .before .before .args in
+    sym (lead-length (length (a .src .now) - a .p) (a .acc .now) (omega arith) (c .before .before .before .add-zeros .last .0))
 
 sub-add-zeros-2 : tie.Need-sub-add-zeros-2
 sub-add-zeros-2 c = search needs

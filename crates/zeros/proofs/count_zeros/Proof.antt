@@ -43,7 +43,8 @@ add-zeros-from-requires c κs =
     let b = c .before .before .before .before .before .before .before .before .before .before .before in (
       l .inv .2,
       b .pre .0 .below (l .i) (omega arith),
-      rw (l .inv .1) (zeroCounts-below (length (b .args .s .now)) (take (l .i) (b .args .positions .now)) (b .args .s .now) 255 (omega (arith, length-take (l .i) (b .args .positions .now)))),
+      rw (l .inv .1) (zeroCounts-below (length (b .args .s .now)) (take (l .i) (b .args .positions .now)) (b .args .s .now) 255
+          (omega (arith, length-take (l .i) (b .args .positions .now)))),
     )
 
 add-i : tie.Need-add-i Inv-loop μ-loop

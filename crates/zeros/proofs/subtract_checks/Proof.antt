@@ -64,13 +64,16 @@ loop-less c = omega arith
 loop-again : tie.Need-loop-again Inv-loop μ-loop
 loop-again c =
     let w = c .before .before .before .before .write-check .ensures in
-    subtract-turn (c .before .before .before .before .before .before .before .before .before .before .before .before .loop .inv) _ _ _ _ (omega arith) (c .before .before .before .before .before .before .before .before .before .wrapped .ensures) (c .before .before .before .before .before .before .before .sub-mod .ensures) (w .0) (w .1)
+    subtract-turn (c .before .before .before .before .before .before .before .before .before .before .before .before .loop .inv) _ _ _ _ (omega arith)
+    (c .before .before .before .before .before .before .before .before .before .wrapped .ensures)
+    (c .before .before .before .before .before .before .before .sub-mod .ensures) (w .0) (w .1)
 
 same-length : tie.Need-same-length Inv-loop μ-loop
 same-length c = omega arith
 
 same-length-2 : tie.Need-same-length-2 Inv-loop μ-loop
-same-length-2 c = ap length (c .before .loop .inv .counted) ∙ length-zeroCounts _ _ _ ∙ sym (ap length (c .before .before .before .before .before .pre .3) ∙ length-zeroCounts _ _ _)
+same-length-2 c = ap length (c .before .loop .inv .counted) ∙ length-zeroCounts _ _ _
+    ∙ sym (ap length (c .before .before .before .before .before .pre .3) ∙ length-zeroCounts _ _ _)
 
 returns : tie.Need-returns Inv-loop μ-loop
 returns c =

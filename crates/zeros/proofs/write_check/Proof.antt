@@ -15,12 +15,21 @@ abbrev μ-loop : tie.MeasureT-loop
 μ-loop k positions c v syndrome zeros₀ lost gained i₀ zeros i = length positions - i
 
 write : (c : tie.After-zero-flag2 Inv-loop μ-loop)
-    → Write (c .before .before .before .before .before .before .args .k) (c .before .before .before .before .before .before .args .positions .now) (c .before .before .before .before .before .before .args .syndrome .now) (c .before .before .before .before .before .before .args .c) (c .before .before .before .before .before .before .args .v) (c .zero-flag2 .result) (c .before .zero-flag .result) (c .before .before .before .before .before .before .args .zeros .now)
+    → Write (c .before .before .before .before .before .before .args .k) (c .before .before .before .before .before .before .args .positions .now)
+    (c .before .before .before .before .before .before .args .syndrome .now) (c .before .before .before .before .before .before .args .c)
+    (c .before .before .before .before .before .before .args .v) (c .zero-flag2 .result) (c .before .zero-flag .result)
+    (c .before .before .before .before .before .before .args .zeros .now)
 write c =
-    let p = c .before .before .before .before .before .before .pre in record { fits = p .0; inside = p .1; counted = p .2; gain = c .zero-flag2 .ensures; loss = c .before .zero-flag .ensures }
+    let p = c .before .before .before .before .before .before .pre in
+    record { fits = p .0; inside = p .1; counted = p .2; gain = c .zero-flag2 .ensures; loss = c .before .zero-flag .ensures }
 
 turn : (c : tie.After-slice-known4 Inv-loop μ-loop)
-    → Turn (c .before .before .before .before .before .before .before .before .before .before .before .before .args .k) (c .before .before .before .before .before .before .before .before .before .before .before .before .args .positions .now) (c .before .before .before .before .before .before .before .before .before .before .before .before .args .c) (c .before .before .before .before .before .before .zero-flag2 .result) (c .before .before .before .before .before .before .before .zero-flag .result) (c .before .before .before .before .before .before .before .before .before .before .before .before .args .zeros .now) (c .before .before .before .before .loop .i) (c .before .before .before .before .loop .zeros) (c .before .wrapped .result)
+    → Turn (c .before .before .before .before .before .before .before .before .before .before .before .before .args .k)
+    (c .before .before .before .before .before .before .before .before .before .before .before .before .args .positions .now)
+    (c .before .before .before .before .before .before .before .before .before .before .before .before .args .c)
+    (c .before .before .before .before .before .before .zero-flag2 .result) (c .before .before .before .before .before .before .before .zero-flag .result)
+    (c .before .before .before .before .before .before .before .before .before .before .before .before .args .zeros .now)
+    (c .before .before .before .before .loop .i) (c .before .before .before .before .loop .zeros) (c .before .wrapped .result)
 turn c = recount-turn (write (c .before .before .before .before .before .before)) (c .before .before .before .before .loop .inv) (omega arith) (c .before .wrapped .ensures)
 
 slice-read-zero-flag : tie.Need-slice-read-zero-flag Inv-loop μ-loop
