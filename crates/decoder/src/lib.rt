@@ -53,7 +53,7 @@ fn decode_answer(
     if 64 < count {
         return 8;
     }
-    if !symbols::all_below(33, thresholds) {
+    if !slices::all_below(33, thresholds) {
         return 9;
     }
     0
@@ -75,10 +75,10 @@ fn open_page(
     ensures distance { λ r. ⌜ r
         ≡ distanceTo (codeOf q k (now (positions .entry))) (now (page .entry)) (opened (codeOf q k (now (positions .entry))) (now (page .entry))) ⌝ }
 {
-    symbols::copy_into(result, &page[..k]);
+    slices::copy_into(result, &page[..k]);
     page::write_syndrome(q, positions, page, s);
-    symbols::clear(d);
-    symbols::weight_of(s)
+    slices::clear(d);
+    slices::weight_of(s)
 }
 
 // The number of nonzero symbols of D and S together.
@@ -86,7 +86,7 @@ fn state_weight(d: &[u8], s: &[u8]) -> u32
     requires { ⌜ (length (now d) ≤ 4096) × (length (now s) ≤ 4096) ⌝ }
     ensures { λ r. ⌜ r ≡ weight (now (d .entry)) + weight (now (s .entry)) ⌝ }
 {
-    symbols::weight_of(d) + symbols::weight_of(s)
+    slices::weight_of(d) + slices::weight_of(s)
 }
 
 // Decodes a page that was tested. A page at distance 0 needs no visit to know that its one pass is idle.

@@ -32,7 +32,7 @@ pub fn page_answer(q: u32, k: u32, positions: &[u16], fits: bool, input: &[u8]) 
     if !fits {
         return 6;
     }
-    if !symbols::all_below(q, input) {
+    if !slices::all_below(q, input) {
         return 7;
     }
     0
@@ -76,7 +76,7 @@ fn write_page(q: u32, positions: &[u16], data: &[u8], page: &mut [u8])
     ensures { λ _. ⌜ now (page .exit) ≡ codeWord (codeOf q (length (now («data» .entry))) (now (positions .entry))) (now («data» .entry)) ⌝ }
 {
     let k = data.len();
-    symbols::copy_into(&mut page[..k], data);
+    slices::copy_into(&mut page[..k], data);
     write_checks(q, positions, data, &mut page[k..]);
 }
 

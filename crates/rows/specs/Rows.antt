@@ -10,7 +10,7 @@ use Rattle.model.specs.Symbols.{add, sub, tabulate, addEach}
 use Rattle.theory.specs.Distance.{length-tabulate, getD-tabulate, tabulate-ext}
 use Rattle.theory.specs.Modulo.{sub-no-borrow, sub-borrow}
 use Rattle.theory.specs.Parts.{lead, both}
-use Rattle.symbols.specs.Written.{tabulate-getD}
+use Rattle.theory.specs.Written.{tabulate-getD}
 
 -- the data turned by p: check i gets data symbol (i − p) mod k
 unfoldable pub row : ℕ → List ℕ → List ℕ

@@ -11,8 +11,8 @@ pub fn copy_row(p: usize, dst: &mut [u8], src: &[u8])
     ensures { λ _. ⌜ now (dst .exit) ≡ row p (now (src .entry)) ⌝ }
 {
     let rest = src.len() - p;
-    symbols::copy_into(&mut dst[p..], &src[..rest]);
-    symbols::copy_into(&mut dst[..p], &src[rest..]);
+    slices::copy_into(&mut dst[p..], &src[..rest]);
+    slices::copy_into(&mut dst[..p], &src[rest..]);
 }
 
 // The row of p added to acc, in two straight runs.

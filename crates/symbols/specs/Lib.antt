@@ -1,4 +1,2 @@
--- Laws for the functions on symbols.
+-- Laws for the sums.
 pub mod Sums
-pub mod Written
-pub mod Scans

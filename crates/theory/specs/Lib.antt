@@ -14,3 +14,4 @@ pub mod Answers
 pub mod Decoding
 pub mod Statements
 pub mod Turns
+pub mod Written

@@ -9,7 +9,7 @@ use lib.ListN.{length, getD, set, take, drop, length-set, take-append-drop}
 use lib.Seq.{take-all, getD-set-same, getD-set-other}
 use Rattle.model.specs.Code.{checksBy}
 use Rattle.model.specs.Symbols.{sub, same, count, tabulate, symbolsAt}
-use Rattle.symbols.specs.Written.{tabulate-getD}
+use Rattle.theory.specs.Written.{tabulate-getD}
 use Rattle.theory.specs.Circulant.{same-iff, length-checksBy}
 use Rattle.theory.specs.Counting.{count-nil, count-cons, same-yes, same-no, same-le}
 use Rattle.theory.specs.Distance.{tabulate-ext}

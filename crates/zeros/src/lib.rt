@@ -43,7 +43,7 @@ pub fn count_zeros(positions: &[u16], s: &[u8], zeros: &mut [u8])
     requires { ⌜ AllChecks (length (now s)) (now positions) (now s) × (length (now zeros) ≡ length (now s)) ⌝ }
     ensures { λ _. ⌜ now (zeros .exit) ≡ zeroCounts (length (now (s .entry))) (now (positions .entry)) (now (s .entry)) ⌝ }
 {
-    symbols::clear(zeros);
+    slices::clear(zeros);
     let mut i = 0;
     while i < positions.len() {
         add_zeros_from(positions[i] as usize, zeros, s);

@@ -3,7 +3,7 @@ use Prim.Native.Nat.{_+_, _-_}
 use native.Mathlib.Omega.{arith}
 use lib.ListN.{length, getD}
 use Rattle.model.specs.Symbols.{add, addEach}
-use Rattle.symbols.specs.Written.{Written, opened, kept, turned, closed}
+use Rattle.theory.specs.Written.{Written, opened, kept, turned, closed}
 use Rattle.symbols.proofs.add_symbols.Statement.{statement}
 use Rattle.symbols.proofs.add_symbols.Tie as tie
 

@@ -6,7 +6,7 @@ use native.Mathlib.Omega.{arith}
 use lib.ListN.{length, getD}
 use Rattle.model.specs.Symbols.{add}
 use Rattle.symbols.specs.Sums.{add-twice}
-use Rattle.symbols.specs.Written.{Written, opened, turned, closed}
+use Rattle.theory.specs.Written.{Written, opened, turned, closed}
 use Rattle.symbols.proofs.add_two_bytes.Statement.{statement}
 use Rattle.symbols.proofs.add_two_bytes.Tie as tie
 

@@ -5,7 +5,7 @@ use native.Mathlib.Omega.{arith}
 use lib.ListN.{length, getD}
 use Rattle.model.specs.Symbols.{add}
 use Rattle.symbols.specs.Sums.{add-lt, add-twice}
-use Rattle.symbols.specs.Written.{Written, opened, kept, turned, closed}
+use Rattle.theory.specs.Written.{Written, opened, kept, turned, closed}
 use Rattle.symbols.proofs.add_two_symbols.Statement.{statement}
 use Rattle.symbols.proofs.add_two_symbols.Tie as tie
 

@@ -4,7 +4,7 @@ use Prim.Native.Nat.{_-_}
 use native.Mathlib.Omega.{arith}
 use lib.ListN.{length, getD}
 use Rattle.model.specs.Symbols.{sub, subEach}
-use Rattle.symbols.specs.Written.{Written, opened, turned, closed}
+use Rattle.theory.specs.Written.{Written, opened, turned, closed}
 use Rattle.symbols.proofs.sub_bytes.Statement.{statement}
 use Rattle.symbols.proofs.sub_bytes.Tie as tie
 

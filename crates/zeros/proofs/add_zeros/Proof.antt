@@ -4,7 +4,7 @@ use native.Mathlib.Omega.{arith}
 use borrow.Author.Needs.{needs}
 use lib.ListN.{length, getD}
 use Rattle.model.specs.Symbols.{same}
-use Rattle.symbols.specs.Written.{Written, opened, kept, turned, closed}
+use Rattle.theory.specs.Written.{Written, opened, kept, turned, closed}
 use Rattle.vote.specs.Checks.{same-bound}
 use Rattle.zeros.specs.Runs.{addZeros}
 use Rattle.zeros.proofs.add_zeros.Statement.{statement}

@@ -1,4 +1,4 @@
--- `symbols::weight_of` meets its contract. Assumes nothing.
+-- `slices::weight_of` meets its contract. Assumes nothing.
 use mathlib.Core.Path.{_≡_, sym, ap, _∙_}
 use Prim.Native.Nat.{_≤_, _-_}
 use native.Mathlib.Omega.{arith}
@@ -6,9 +6,9 @@ use borrow.Author.Needs.{needs}
 use lib.ListN.{length, take, length-take, length-drop}
 use lib.Seq.{take-all}
 use Rattle.model.specs.Symbols.{weight}
-use Rattle.symbols.specs.Scans.{weight-none, weight-part, weight-take-le}
-use Rattle.symbols.proofs.weight_of.Statement.{statement}
-use Rattle.symbols.proofs.weight_of.Tie as tie
+use Rattle.slices.specs.Scans.{weight-none, weight-part, weight-take-le}
+use Rattle.slices.proofs.weight_of.Statement.{statement}
+use Rattle.slices.proofs.weight_of.Tie as tie
 
 abbrev Inv-loop : tie.InvT-loop
 Inv-loop s n₀ a₀ n a = (a ≤ length s) × (n ≡ weight (take a s))

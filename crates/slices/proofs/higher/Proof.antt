@@ -1,7 +1,7 @@
--- `symbols::higher` meets its contract. Assumes nothing.
+-- `slices::higher` meets its contract. Assumes nothing.
 use native.Mathlib.Omega.{arith}
-use Rattle.symbols.proofs.higher.Statement.{statement}
-use Rattle.symbols.proofs.higher.Tie as tie
+use Rattle.slices.proofs.higher.Statement.{statement}
+use Rattle.slices.proofs.higher.Tie as tie
 
 returns : tie.Need-returns
 returns c = omega arith

@@ -1,12 +1,12 @@
--- `symbols::copy_into` meets its contract. Assumes nothing.
+-- `slices::copy_into` meets its contract. Assumes nothing.
 use mathlib.Core.Path.{ap, _∙_}
 use Prim.Native.Nat.{ℕ, _-_}
 use native.Mathlib.Omega.{arith}
 use lib.ListN.{length, getD}
 use Rattle.model.specs.Symbols.{tabulate}
-use Rattle.symbols.specs.Written.{Written, opened, turned, closed, tabulate-getD}
-use Rattle.symbols.proofs.copy_into.Statement.{statement}
-use Rattle.symbols.proofs.copy_into.Tie as tie
+use Rattle.theory.specs.Written.{Written, opened, turned, closed, tabulate-getD}
+use Rattle.slices.proofs.copy_into.Statement.{statement}
+use Rattle.slices.proofs.copy_into.Tie as tie
 
 abbrev Inv-loop : tie.InvT-loop
 Inv-loop dst₀ src i₀ dst i = Written (λ l x. getD src l 0) dst₀ i dst

@@ -1,12 +1,12 @@
--- `symbols::all_below` meets its contract. Assumes nothing.
+-- `slices::all_below` meets its contract. Assumes nothing.
 use mathlib.Core.Path.{sym, ap, _∙_}
 use Prim.Native.Nat.{ℕ}
 use native.Mathlib.Omega.{arith}
 use lib.Dec.{ltb}
-use Rattle.symbols.specs.Scans.{below-highest, all-below-at}
+use Rattle.slices.specs.Scans.{below-highest, all-below-at}
 use borrow.Author.Needs.{needs}
-use Rattle.symbols.proofs.all_below.Statement.{statement}
-use Rattle.symbols.proofs.all_below.Tie as tie
+use Rattle.slices.proofs.all_below.Statement.{statement}
+use Rattle.slices.proofs.all_below.Tie as tie
 
 returns : tie.Need-returns
 returns c = sym (all-below-at _ _ (λ i. omega (arith, c .before .shared-slice-known .given i)))

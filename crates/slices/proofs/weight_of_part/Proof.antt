@@ -1,4 +1,4 @@
--- `symbols::weight_of_part` meets its contract. Assumes nothing.
+-- `slices::weight_of_part` meets its contract. Assumes nothing.
 use mathlib.Core.Path.{_≡_, sym, ap, _∙_}
 use Prim.Native.Nat.{_≤_, _-_}
 use native.Mathlib.Omega.{arith}
@@ -7,9 +7,9 @@ use lib.ListN.{length, getD, take}
 use lib.Seq.{take-all}
 use Rattle.model.specs.Symbols.{weight}
 use Rattle.theory.specs.Counting.{differ-le}
-use Rattle.symbols.specs.Scans.{weight-none, weight-turn, weight-take-le}
-use Rattle.symbols.proofs.weight_of_part.Statement.{statement}
-use Rattle.symbols.proofs.weight_of_part.Tie as tie
+use Rattle.slices.specs.Scans.{weight-none, weight-turn, weight-take-le}
+use Rattle.slices.proofs.weight_of_part.Statement.{statement}
+use Rattle.slices.proofs.weight_of_part.Tie as tie
 
 abbrev Inv-loop : tie.InvT-loop
 Inv-loop s n₀ i₀ n i = (i ≤ length s) × (n ≡ weight (take i s))

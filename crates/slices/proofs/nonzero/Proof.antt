@@ -1,8 +1,8 @@
--- `symbols::nonzero` meets its contract. Assumes nothing.
+-- `slices::nonzero` meets its contract. Assumes nothing.
 use native.Mathlib.Omega.{arith}
 use Rattle.theory.specs.Counting.{differ-no, differ-yes}
-use Rattle.symbols.proofs.nonzero.Statement.{statement}
-use Rattle.symbols.proofs.nonzero.Tie as tie
+use Rattle.slices.proofs.nonzero.Statement.{statement}
+use Rattle.slices.proofs.nonzero.Tie as tie
 
 returns : tie.Need-returns
 returns c = omega (arith, differ-no (c .before .args .x) 0 (omega arith))

@@ -1,8 +1,8 @@
--- `symbols::part_end` meets its contract. Assumes nothing.
+-- `slices::part_end` meets its contract. Assumes nothing.
 use native.Mathlib.Omega.{arith}
 use borrow.Author.Needs.{needs}
-use Rattle.symbols.proofs.part_end.Statement.{statement}
-use Rattle.symbols.proofs.part_end.Tie as tie
+use Rattle.slices.proofs.part_end.Statement.{statement}
+use Rattle.slices.proofs.part_end.Tie as tie
 
 sub-if1 : tie.Need-sub-if1
 sub-if1 c = search needs

@@ -1,13 +1,13 @@
--- `symbols::highest_of` meets its contract. Assumes nothing.
+-- `slices::highest_of` meets its contract. Assumes nothing.
 use mathlib.Core.Path.{_≡_, sym, ap, _∙_}
 use Prim.Native.Nat.{_≤_, _-_}
 use native.Mathlib.Omega.{arith}
 use borrow.Author.Needs.{needs}
 use lib.ListN.{length, take}
 use lib.Seq.{take-all}
-use Rattle.symbols.specs.Scans.{highest, highest-none, highest-turn}
-use Rattle.symbols.proofs.highest_of.Statement.{statement}
-use Rattle.symbols.proofs.highest_of.Tie as tie
+use Rattle.slices.specs.Scans.{highest, highest-none, highest-turn}
+use Rattle.slices.proofs.highest_of.Statement.{statement}
+use Rattle.slices.proofs.highest_of.Tie as tie
 
 abbrev Inv-loop : tie.InvT-loop
 Inv-loop s top₀ i₀ top i = (i ≤ length s) × (top ≡ highest (take i s))

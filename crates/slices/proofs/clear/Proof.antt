@@ -1,10 +1,10 @@
--- `symbols::clear` meets its contract. Assumes nothing.
+-- `slices::clear` meets its contract. Assumes nothing.
 use Prim.Native.Nat.{_-_}
 use native.Mathlib.Omega.{arith}
 use lib.ListN.{length}
-use Rattle.symbols.specs.Written.{Written, opened, turned, closed}
-use Rattle.symbols.proofs.clear.Statement.{statement}
-use Rattle.symbols.proofs.clear.Tie as tie
+use Rattle.theory.specs.Written.{Written, opened, turned, closed}
+use Rattle.slices.proofs.clear.Statement.{statement}
+use Rattle.slices.proofs.clear.Tie as tie
 
 abbrev Inv-loop : tie.InvT-loop
 Inv-loop s₀ i₀ s i = Written (λ l x. 0) s₀ i s

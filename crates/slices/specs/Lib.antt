@@ -1,0 +1,2 @@
+-- Laws for the scans.
+pub mod Scans
