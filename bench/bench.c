@@ -327,7 +327,7 @@ int main(int argc, char **argv)
             return 2;
         }
 
-    int rounds = quick ? 5 : 40, rows = 0;
+    int rounds = quick ? 5 : 120, rows = 0;
     double batch = quick ? 5e5 : 2e6;
     if (!count)
         print_head(ns);
