@@ -1,69 +1,73 @@
--- The check symbols by the first positions of the table, as the loop over positions adds them.
+-- The rows of the positions added one after the other, and what that makes: the check symbols, and a page's syndrome.
 use mathlib.Core.Path.{_≡_, refl, ap, sym, _∙_}
 use mathlib.Core.List.{List, [], _∷_, _++_, append-nil}
-use Prim.Native.Nat.{ℕ, zero, suc, _+_, _-_, _%_, _<_, _≤_}
+use Prim.Native.Nat.{ℕ, zero, _+_, _-_, _%_, _<_, _≤_}
 use native.Mathlib.Nat.{mod-lt, mod-eq-of-lt, mod-add-mod}
+use native.Mathlib.Numerals.{add-one}
 use native.Mathlib.Omega.{arith}
 use borrow.Rule.Slice.PartMut.{putMid, post-is}
-use lib.ListN.{length, getD, take, drop, length-append, length-drop}
-use lib.Seq.{take-all, take-at, drop-length, getD-drop, length-take-le}
+use lib.ListN.{length, getD, take, drop, length-append, length-drop, drop-of-length-le}
+use lib.Seq.{take-all, take-at, drop-cons, drop-length, length-take-le}
 use Rattle.model.specs.Symbols.{add, sub, Below, sumOver, tabulate, addEach, subEach}
 use Rattle.model.specs.Code.{codeOf, checkSumBy, checkSymbol, checkSymbols, syndrome}
-use Rattle.theory.specs.Distance.{length-tabulate, getD-tabulate, tabulate-ext, below-tabulate}
-use Rattle.theory.specs.Turns.{sumOver-turn}
-use Rattle.rows.specs.Rows.{row, row-at, each-is}
+use Rattle.theory.specs.Distance.{tabulate-ext, below-tabulate}
+use Rattle.theory.specs.Modulo.{by-eq}
+use Rattle.theory.specs.Parts.{below-part}
+use Rattle.theory.specs.Written.{tabulate-getD}
+use Rattle.rows.specs.Rows.{row, row-length, row-at, each-length, each-at, less-length, less-at}
 
--- the checks by a list of positions
-unfoldable pub checksFrom : ℕ → List ℕ → List ℕ → List ℕ
-checksFrom q ps u = tabulate (length u) (λ i. checkSumBy (length u) ps u i % q)
+-- the rows of a list of positions, added to s one after the other
+unfoldable pub addRows : ℕ → List ℕ → List ℕ → List ℕ → List ℕ
+addRows q [] u s = s
+addRows q (p ∷ ps) u s = addRows q ps u (addEach q s (row p u))
 
-length-checks : (q : ℕ) (ps u : List ℕ) → length (checksFrom q ps u) ≡ length u
-unfolding checksFrom
-length-checks q ps u = length-tabulate (length u) (λ i. checkSumBy (length u) ps u i % q)
+-- one position after n, two, and none
+pub rows-turn : (q : ℕ) (ps u s : List ℕ) (n : ℕ) → n < length ps → addRows q (drop n ps) u s ≡ addRows q (drop (n + 1) ps) u (addEach q s (row (getD ps n 0) u))
+unfolding addRows
+rows-turn q ps u s n h = rw (add-one n, drop-cons ps n 0)
 
--- by the first position alone they are its row
-pub checks-first : (q : ℕ) → zero < q → (ps u : List ℕ) → 0 < length ps → Below q u → row (getD ps 0 0) u ≡ checksFrom q (take 1 ps) u
-unfolding checksFrom checkSumBy sumOver row
-checks-first q pos [] u h low = absurd (omega arith)
-checks-first q pos (p ∷ ps) u h low =
-    let k : ℕ = length u in
-    tabulate-ext k _ (λ i. (getD u (sub k i p) 0 + 0) % q)
-    (λ i l. sym (mod-eq-of-lt (low (sub k i p))) ∙ ap (λ (s : ℕ). s % q) (let z : getD u (sub k i p) 0 ≡ getD u (sub k i p) 0 + 0 = omega arith in z))
+pub rows-two : (q : ℕ) (ps u s : List ℕ) (n : ℕ) → n + 1 < length ps
+    → addRows q (drop n ps) u s ≡ addRows q (drop (n + 2) ps) u (addEach q (addEach q s (row (getD ps n 0) u)) (row (getD ps (n + 1) 0) u))
+rows-two q ps u s n h =
+    let t : List ℕ = addEach q (addEach q s (row (getD ps n 0) u)) (row (getD ps (n + 1) 0) u) in
+    rows-turn q ps u s n (omega arith) ∙ rows-turn q ps u (addEach q s (row (getD ps n 0) u)) (n + 1) h
+    ∙ ap (λ (m : ℕ). addRows q (drop m ps) u t) (let z : n + 1 + 1 ≡ n + 2 = omega arith in z)
 
--- the row of one position more
-pub checks-turn : (q : ℕ) (ps u : List ℕ) (n : ℕ) → n < length ps → addEach q (checksFrom q (take n ps) u) (row (getD ps n 0) u) ≡ checksFrom q (take (n + 1) ps) u
-unfolding checksFrom checkSumBy add
-checks-turn q ps u n h =
-    let k : ℕ = length u in
-    let sums : ℕ → ℕ = λ o. checkSumBy k (take n ps) u o % q in
-    each-is q k (checksFrom q (take n ps) u) (row (getD ps n 0) u) (λ i. checkSumBy k (take (n + 1) ps) u i % q) (length-checks q (take n ps) u)
-    (λ i l. ap (λ (s : ℕ). (s + getD (row (getD ps n 0) u) i 0) % q) (getD-tabulate k sums i l)
-    ∙ ap (λ (x : ℕ). (sums i + x) % q) (row-at (getD ps n 0) u i l)
-    ∙ mod-add-mod (checkSumBy k (take n ps) u i) q (getD u (sub k i (getD ps n 0)) 0)
-    ∙ ap (λ (s : ℕ). s % q) (sym (sumOver-turn ps (λ p. getD u (sub k i p) 0) n h)))
+pub rows-end : (q : ℕ) (ps u s : List ℕ) (n : ℕ) → length ps ≤ n → addRows q (drop n ps) u s ≡ s
+unfolding addRows
+rows-end q ps u s n h = rw (drop-of-length-le ps h)
 
--- the rows of two positions more
-pub checks-two : (q : ℕ) (ps u : List ℕ) (n : ℕ) → n + 1 < length ps
-    → addEach q (addEach q (checksFrom q (take n ps) u) (row (getD ps n 0) u)) (row (getD ps (n + 1) 0) u) ≡ checksFrom q (take (n + 2) ps) u
-checks-two q ps u n h =
-    ap (λ (l : List ℕ). addEach q l (row (getD ps (n + 1) 0) u)) (checks-turn q ps u n (omega arith))
-    ∙ checks-turn q ps u (n + 1) h ∙ ap (λ (m : ℕ). checksFrom q (take m ps) u) (let z : n + 1 + 1 ≡ n + 2 = omega arith in z)
+-- what a row is added to, and what it makes of it
+pub record Sums (q : ℕ) (u s : List ℕ) : Type 0 where
+  pub sized : length s ≡ length u
+  pub low : Below q s
 
--- all positions
-pub checks-all : (q : ℕ) (ps u : List ℕ) (n : ℕ) → length ps ≤ n → checksFrom q (take n ps) u ≡ checkSymbols (codeOf q (length u) ps) u
-unfolding checksFrom checkSymbols checkSymbol
-checks-all q ps u n h = ap (λ (l : List ℕ). tabulate (length u) (λ i. checkSumBy (length u) l u i % q)) (take-all n ps h)
+module _ (q : ℕ) (pos : zero < q) (u : List ℕ) where
+  pub sums-more : (s ys : List ℕ) → Sums q u s → Sums q u (addEach q s ys)
+  unfolding addEach add
+  sums-more s ys c = record {
+    sized = each-length q s ys ∙ c .sized;
+    low = below-tabulate q pos (length s) _ (λ i. mod-lt (getD s i 0 + getD ys i 0) pos);
+  }
 
-checks-below : (q : ℕ) → zero < q → (ps u : List ℕ) → Below q (checksFrom q ps u)
-unfolding checksFrom
-checks-below q pos ps u = below-tabulate q pos (length u) (λ i. checkSumBy (length u) ps u i % q) (λ i. mod-lt (checkSumBy (length u) ps u i) pos)
+  row-added : (p : ℕ) (s : List ℕ) (i : ℕ) → i < length s → i < length u → getD (addEach q s (row p u)) i 0 ≡ (getD s i 0 + getD u (sub (length u) i p) 0) % q
+  unfolding add
+  row-added p s i l h = each-at q s (row p u) i l ∙ ap (λ (y : ℕ). (getD s i 0 + y) % q) (row-at p u i h)
 
--- what a row is added to
-pub addable : (q : ℕ) → zero < q → (ps u cs : List ℕ) → cs ≡ checksFrom q ps u → (length cs ≡ length u) × Below q cs
-addable q pos ps u cs e = rw e (length-checks q ps u, checks-below q pos ps u)
-
-pub one-length : (q : ℕ) (ps rs u cs ds : List ℕ) → cs ≡ checksFrom q ps u → ds ≡ checksFrom q rs u → length cs ≡ length ds
-one-length q ps rs u cs ds d e = rw (d, e) (length-checks q ps u ∙ sym (length-checks q rs u))
+  -- all rows, by the symbols of the sum
+  pub rows-are : (ps s : List ℕ) → Sums q u s → addRows q ps u s ≡ tabulate (length u) (λ i. (getD s i 0 + checkSumBy (length u) ps u i) % q)
+  unfolding addRows checkSumBy sumOver
+  rows-are [] s c =
+      sym (tabulate-getD s) ∙ ap (λ (n : ℕ). tabulate n (λ i. getD s i 0)) (c .sized)
+      ∙ tabulate-ext (length u) _ _ (λ i l. sym (mod-eq-of-lt (c .low i)) ∙ ap (λ (x : ℕ). x % q) (let z : getD s i 0 ≡ getD s i 0 + 0 = omega arith in z))
+  rows-are (p ∷ ps) s c =
+      let rest : ℕ → ℕ = λ i. sumOver ps (λ r. getD u (sub (length u) i r) 0) in
+      rows-are ps (addEach q s (row p u)) (sums-more s (row p u) c)
+      ∙ tabulate-ext (length u) _ _ (λ i l.
+      let x : ℕ = getD u (sub (length u) i p) 0 in
+      ap (λ (y : ℕ). (y + rest i) % q) (row-added p s i (omega (arith, c .sized)) l)
+      ∙ mod-add-mod (getD s i 0 + x) q (rest i)
+      ∙ by-eq q {x = getD s i 0 + x + rest i} {y = getD s i 0 + (x + rest i)} (omega arith))
 
 -- the page that holds v at its front, with cs written from the end of v on
 pub front-written : (u v rest cs ds : List ℕ) → v ≡ u → cs ≡ ds
@@ -71,36 +75,48 @@ pub front-written : (u v rest cs ds : List ℕ) → v ≡ u → cs ≡ ds
 front-written u v rest cs ds e f =
     rw (e, f, take-at u rest (length u) refl, post-is (length u) (length (u ++ rest)) (u ++ rest) (simp length-append (omega arith)), drop-length (u ++ rest), append-nil ds) refl
 
--- a part of symbols below q
-pub below-take : (q : ℕ) → zero < q → (n : ℕ) (s : List ℕ) → Below q s → Below q (take n s)
-below-take q pos zero s b i = pos
-below-take q pos (suc n) [] b i = pos
-below-take q pos (suc n) (x ∷ xs) b zero = b 0
-below-take q pos (suc n) (x ∷ xs) b (suc i) = below-take q pos n xs (λ l. b (suc l)) i
+-- from the row of the first position on, the rows make the check symbols
+module _ (q : ℕ) (pos : zero < q) (u : List ℕ) (low : Below q u) where
+  pub row-sums : (p : ℕ) → Sums q u (row p u)
+  unfolding row
+  row-sums p = record { sized = row-length p u; low = below-tabulate q pos (length u) _ (λ i. low (sub (length u) i p)) }
 
-below-drop : (q n : ℕ) (s : List ℕ) → Below q s → Below q (drop n s)
-below-drop q n s b i = rw (getD-drop n s i 0) (b (n + i))
+  pub checks-written : (ps : List ℕ) → 0 < length ps → addRows q (drop 1 ps) u (row (getD ps 0 0) u) ≡ checkSymbols (codeOf q (length u) ps) u
+  unfolding checkSymbols checkSymbol checkSumBy sumOver
+  checks-written [] h = absurd (omega arith)
+  checks-written (p ∷ ps) h =
+      rows-are q pos u ps (row p u) (row-sums p)
+      ∙ tabulate-ext (length u) _ _ (λ i l. ap (λ (x : ℕ). (x + sumOver ps (λ r. getD u (sub (length u) i r) 0)) % q) (row-at p u i l))
 
--- a page of k data symbols and k checks, with v its data's check symbols
-module _ (q k : ℕ) (ps page v : List ℕ) (pos : zero < q) (len : length page ≡ k + k) (e : v ≡ checkSymbols (codeOf q (length (take k page)) ps) (take k page)) where
-  data-checks : v ≡ checkSymbols (codeOf q k ps) (take k page)
-  data-checks = e ∙ ap (λ (n : ℕ). checkSymbols (codeOf q n ps) (take k page)) (length-take-le k page (omega arith))
+  -- and from that row less c on, the check symbols less c
+  less-turned : (a b x : ℕ) → (sub q a b + x) % q ≡ sub q ((a + x) % q) b
+  unfolding sub
+  less-turned a b x =
+      mod-add-mod (a + (q - b)) q x ∙ by-eq q {x = a + (q - b) + x} {y = a + x + (q - b)} (omega arith) ∙ sym (mod-add-mod (a + x) q (q - b))
 
-  -- the page's checks, as the part of the page from k on
-  the-checks : take (length page - k) (drop k page) ≡ drop k page
-  the-checks = take-all (length page - k) (drop k page) (simp length-drop (omega arith))
+  pub less-sums : (p : ℕ) (c : List ℕ) → Sums q u (subEach q (row p u) c)
+  unfolding subEach sub
+  less-sums p c = record {
+    sized = less-length q (row p u) c ∙ row-length p u;
+    low = below-tabulate q pos (length (row p u)) _ (λ i. mod-lt (getD (row p u) i 0 + (q - getD c i 0)) pos);
+  }
 
-  pub checks-subtractable : (length v ≡ length (take (length page - k) (drop k page))) × Below q v × (Below q page → Below q (take (length page - k) (drop k page)))
-  unfolding checkSymbols checkSymbol
-  checks-subtractable = rw (the-checks, data-checks) (
-    length-tabulate k (λ i. checkSymbol (codeOf q k ps) (take k page) i) ∙ simp length-drop (omega arith),
-    below-tabulate q pos k (λ i. checkSymbol (codeOf q k ps) (take k page) i) (λ i. mod-lt (checkSumBy k ps (take k page) i) pos),
-    below-drop q k page,
-  )
+  less-written : (ps c : List ℕ) → 0 < length ps
+      → addRows q (drop 1 ps) u (subEach q (row (getD ps 0 0) u) c) ≡ tabulate (length u) (λ i. sub q (checkSumBy (length u) ps u i % q) (getD c i 0))
+  unfolding checkSumBy sumOver
+  less-written [] c h = absurd (omega arith)
+  less-written (p ∷ ps) c h =
+      let rest : ℕ → ℕ = λ i. sumOver ps (λ r. getD u (sub (length u) i r) 0) in
+      rows-are q pos u ps (subEach q (row p u) c) (less-sums p c)
+      ∙ tabulate-ext (length u) _ _ (λ i l.
+      ap (λ (x : ℕ). (x + rest i) % q) (less-at q (row p u) c i _ _ (omega (arith, row-length p u)) (row-at p u i l) refl)
+      ∙ less-turned (getD u (sub (length u) i p) 0) (getD c i 0) (rest i))
 
-  -- the syndrome is the one less the other
-  pub syndrome-written : subEach q v (take (length page - k) (drop k page)) ≡ syndrome (codeOf q k ps) page
-  unfolding subEach syndrome checkSymbols
-  syndrome-written =
-      rw (the-checks, data-checks, length-tabulate k (λ i. checkSymbol (codeOf q k ps) (take k page) i))
-      (tabulate-ext k _ _ (λ i h. ap (λ (x : ℕ). sub q x (getD (drop k page) i 0)) (getD-tabulate k (λ o. checkSymbol (codeOf q k ps) (take k page) o) i h)))
+-- a page's syndrome
+pub syndrome-written : (q : ℕ) → zero < q → (k : ℕ) (ps page : List ℕ) → 0 < length ps → Below q page → length page ≡ k + k
+    → addRows q (drop 1 ps) (take k page) (subEach q (row (getD ps 0 0) (take k page)) (take (length page - k) (drop k page))) ≡ syndrome (codeOf q k ps) page
+unfolding syndrome checkSymbol
+syndrome-written q pos k ps page h low len =
+    rw (take-all (length page - k) (drop k page) (simp length-drop (omega arith)))
+    (less-written q pos (take k page) (below-part q pos 0 k page low) ps (drop k page) h
+    ∙ ap (λ (n : ℕ). tabulate n (λ i. sub q (checkSumBy n ps (take k page) i % q) (getD (drop k page) i 0))) (length-take-le k page (omega arith)))

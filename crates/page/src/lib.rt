@@ -3,13 +3,13 @@ ghost use mathlib.Core.Path.{_≡_};
 ghost use mathlib.Core.Bool.{_&&_};
 ghost use Prim.Native.Nat.{_+_};
 ghost use lib.Dec.{eqb};
-ghost use lib.ListN.{length, take};
+ghost use lib.ListN.{length, drop};
 ghost use Rattle.model.specs.Symbols.{Below};
 ghost use Rattle.model.specs.Code.{codeOf, checkSymbols, codeWord, syndrome};
 ghost use Rattle.model.specs.Calls.{firstThatApplies, pageTests, encodeOutcome, syndromeOutcome};
 ghost use Rattle.model.specs.Demand.{Encodes};
 ghost use Rattle.theory.specs.Answers.{Limits};
-ghost use Rattle.page.specs.Checks.{checksFrom};
+ghost use Rattle.page.specs.Checks.{addRows, Sums};
 
 // Two lengths are as a call needs them.
 pub fn two_fit(a: usize, m: usize, b: usize, n: usize) -> bool
@@ -38,34 +38,32 @@ pub fn page_answer(q: u32, k: u32, positions: &[u16], fits: bool, input: &[u8]) 
     0
 }
 
-// The check symbols of the data, from those by the first position alone: the rows of the others are added, two at a time.
-fn add_checks(q: u32, positions: &[u16], data: &[u8], checks: &mut [u8])
-    requires { ⌜ Limits (codeOf q (length (now «data»)) (now positions))
-        × Below q (now «data»)
-        × (now checks ≡ checksFrom q (take 1 (now positions)) (now «data»)) ⌝ }
-    ensures { λ _. ⌜ now (checks .exit) ≡ checkSymbols (codeOf q (length (now («data» .entry))) (now (positions .entry))) (now («data» .entry)) ⌝ }
+// The rows of all positions but the first, added to the sums, two at a time.
+fn add_rows(q: u32, positions: &[u16], data: &[u8], sums: &mut [u8])
+    requires { ⌜ Limits (codeOf q (length (now «data»)) (now positions)) × Below q (now «data») × Sums q (now «data») (now sums) ⌝ }
+    ensures { λ _. ⌜ now (sums .exit) ≡ addRows q (drop 1 (now (positions .entry))) (now («data» .entry)) (now (sums .entry)) ⌝ }
 {
     let mut n = 1;
     while n + 1 < positions.len() {
         let p = positions[n] as usize;
         let r = positions[n + 1] as usize;
-        rows::add_two_rows(q, p, r, checks, data);
+        rows::add_two_rows(q, p, r, sums, data);
         n += 2;
     }
     if n < positions.len() {
         let p = positions[n] as usize;
-        rows::add_row(q, p, checks, data);
+        rows::add_row(q, p, sums, data);
     }
 }
 
-// The check symbols of the data. By the first position alone they are its row.
+// The check symbols of the data: the row of the first position, and the others added.
 fn write_checks(q: u32, positions: &[u16], data: &[u8], checks: &mut [u8])
     requires { ⌜ Limits (codeOf q (length (now «data»)) (now positions)) × Below q (now «data») × (length (now checks) ≡ length (now «data»)) ⌝ }
     ensures { λ _. ⌜ now (checks .exit) ≡ checkSymbols (codeOf q (length (now («data» .entry))) (now (positions .entry))) (now («data» .entry)) ⌝ }
 {
     let first = positions[0] as usize;
     rows::copy_row(first, checks, data);
-    add_checks(q, positions, data, checks);
+    add_rows(q, positions, data, checks);
 }
 
 // The page of the data: the data, then its checks.
@@ -80,14 +78,15 @@ fn write_page(q: u32, positions: &[u16], data: &[u8], page: &mut [u8])
     write_checks(q, positions, data, &mut page[k..]);
 }
 
-// The syndrome of a page: the checks of its data less its checks.
+// The syndrome of a page: the row of the first position less the page's checks, and the other rows added.
 pub fn write_syndrome(q: u32, positions: &[u16], page: &[u8], s: &mut [u8])
     requires { ⌜ Limits (codeOf q (length (now s)) (now positions)) × Below q (now page) × (length (now page) ≡ length (now s) + length (now s)) ⌝ }
     ensures { λ _. ⌜ now (s .exit) ≡ syndrome (codeOf q (length (now (s .entry))) (now (positions .entry))) (now (page .entry)) ⌝ }
 {
     let k = s.len();
-    write_checks(q, positions, &page[..k], s);
-    symbols::sub_into(q, s, &page[k..]);
+    let first = positions[0] as usize;
+    rows::copy_row_less(q, first, s, &page[..k], &page[k..]);
+    add_rows(q, positions, &page[..k], s);
 }
 
 // Writes the page of the data.

@@ -6,7 +6,7 @@ use native.Mathlib.Omega.{arith}
 use borrow.Rule.Slice.PartMut.{putMid}
 use lib.ListN.{length, getD, take, drop, length-take, length-drop}
 use lib.Seq.{getD-take, getD-drop, length-take-le}
-use Rattle.model.specs.Symbols.{add, sub, tabulate, addEach}
+use Rattle.model.specs.Symbols.{add, sub, tabulate, addEach, subEach}
 use Rattle.theory.specs.Distance.{length-tabulate, getD-tabulate, tabulate-ext}
 use Rattle.theory.specs.Modulo.{sub-no-borrow, sub-borrow}
 use Rattle.theory.specs.Parts.{lead, both}
@@ -32,17 +32,13 @@ listed : (m : ℕ) (f : ℕ → ℕ) (xs : List ℕ) → length xs ≡ m → ((i
 listed m f xs e h = sym (tabulate-getD xs) ∙ ap (λ (n : ℕ). tabulate n (λ i. getD xs i 0)) e ∙ tabulate-ext m _ f h
 
 -- a sum of lists by its symbols
-each-length : (q : ℕ) (xs ys : List ℕ) → length (addEach q xs ys) ≡ length xs
+pub each-length : (q : ℕ) (xs ys : List ℕ) → length (addEach q xs ys) ≡ length xs
 unfolding addEach
 each-length q xs ys = length-tabulate (length xs) (λ i. add q (getD xs i 0) (getD ys i 0))
 
-each-at : (q : ℕ) (xs ys : List ℕ) (i : ℕ) → i < length xs → getD (addEach q xs ys) i 0 ≡ add q (getD xs i 0) (getD ys i 0)
+pub each-at : (q : ℕ) (xs ys : List ℕ) (i : ℕ) → i < length xs → getD (addEach q xs ys) i 0 ≡ add q (getD xs i 0) (getD ys i 0)
 unfolding addEach
 each-at q xs ys i h = getD-tabulate (length xs) (λ o. add q (getD xs o 0) (getD ys o 0)) i h
-
-pub each-is : (q m : ℕ) (xs ys : List ℕ) (f : ℕ → ℕ) → length xs ≡ m → ((i : ℕ) → i < m → add q (getD xs i 0) (getD ys i 0) ≡ f i)
-    → addEach q xs ys ≡ tabulate m f
-each-is q m xs ys f e h = listed m f (addEach q xs ys) (each-length q xs ys ∙ e) (λ i l. each-at q xs ys i (omega arith) ∙ h i l)
 
 -- a part of a list by its symbols
 part-at : (n o : ℕ) (u : List ℕ) (i : ℕ) → i < n → getD (take n (drop o u)) i 0 ≡ getD u (o + i) 0
@@ -50,6 +46,10 @@ part-at n o u i h = getD-take n (drop o u) i 0 h ∙ getD-drop o u i 0
 
 part-length : (n o : ℕ) (u : List ℕ) → o + n ≤ length u → length (take n (drop o u)) ≡ n
 part-length n o u h = length-take-le n (drop o u) (omega (arith, length-drop o u))
+
+pub row-length : (p : ℕ) (u : List ℕ) → length (row p u) ≡ length u
+unfolding row
+row-length p u = length-tabulate (length u) (λ i. getD u (sub (length u) i p) 0)
 
 pub row-at : (p : ℕ) (u : List ℕ) (i : ℕ) → i < length u → getD (row p u) i 0 ≡ getD u (sub (length u) i p) 0
 unfolding row
@@ -75,6 +75,14 @@ module _ (p : ℕ) (u : List ℕ) (n o c : ℕ) where
 sum-at : (q : ℕ) (xs ys : List ℕ) (i a b : ℕ) → i < length xs → getD xs i 0 ≡ a → getD ys i 0 ≡ b → getD (addEach q xs ys) i 0 ≡ add q a b
 sum-at q xs ys i a b h d e = each-at q xs ys i h ∙ rw (d, e)
 
+pub less-at : (q : ℕ) (xs ys : List ℕ) (i a b : ℕ) → i < length xs → getD xs i 0 ≡ a → getD ys i 0 ≡ b → getD (subEach q xs ys) i 0 ≡ sub q a b
+unfolding subEach
+less-at q xs ys i a b h d e = getD-tabulate (length xs) (λ o. sub q (getD xs o 0) (getD ys o 0)) i h ∙ rw (d, e)
+
+pub less-length : (q : ℕ) (xs ys : List ℕ) → length (subEach q xs ys) ≡ length xs
+unfolding subEach
+less-length q xs ys = length-tabulate (length xs) (λ o. sub q (getD xs o 0) (getD ys o 0))
+
 two-at : (q : ℕ) (xs ys zs : List ℕ) (i a b c : ℕ) → i < length xs → getD xs i 0 ≡ a → getD ys i 0 ≡ b → getD zs i 0 ≡ c
     → getD (addEach q (addEach q xs ys) zs) i 0 ≡ add q (add q a b) c
 two-at q xs ys zs i a b c h d e f = sum-at q (addEach q xs ys) zs i (add q a b) c (omega (arith, each-length q xs ys)) (sum-at q xs ys i a b h d e) f
@@ -99,6 +107,20 @@ module _ (p : ℕ) (s u : List ℕ) (same : length s ≡ length u) (h : p < leng
       (rw e (simp (length-take, length-drop) (omega arith)))
       (λ i l. rw e (straight-before p u (length u - (length u - p)) (length u - p) 0 (omega arith) (omega arith) (omega arith) i (omega arith)))
       ∙ ap (λ (n : ℕ). tabulate n (λ i. getD u (sub (length u) i p) 0)) same
+
+  -- the row of p less v written over s
+  pub copied-less : (q : ℕ) (v : List ℕ) → length v ≡ length u → (r t : List ℕ) → r ≡ subEach q (take (length u - p) u) (take (length v - p) (drop p v))
+      → t ≡ subEach q (take (length u - (length u - p)) (drop (length u - p) u)) (take p v)
+      → t ++ drop p (putMid p (length s - p) s r) ≡ subEach q (row p u) v
+  copied-less q v len r t d e =
+      put-both p s (omega arith) (λ i. sub q (getD u (sub (length u) i p) 0) (getD v i 0)) r t (rw d (less-length q _ _ ∙ simp length-take (omega arith)))
+      (λ i l. rw d (less-at q _ _ i _ _ (simp length-take (omega arith))
+      (straight-from p u (length u - p) 0 p (omega arith) (omega arith) (omega arith) i (omega arith)) (part-at (length v - p) p v i (omega arith))))
+      (rw e (less-length q _ _ ∙ simp (length-take, length-drop) (omega arith)))
+      (λ i l. rw e (less-at q _ _ i _ _ (simp (length-take, length-drop) (omega arith))
+      (straight-before p u (length u - (length u - p)) (length u - p) 0 (omega arith) (omega arith) (omega arith) i (omega arith)) (part-at p 0 v i l)))
+      ∙ sym (listed (length s) (λ i. sub q (getD u (sub (length u) i p) 0) (getD v i 0)) (subEach q (row p u) v) (less-length q (row p u) v ∙ row-length p u ∙ sym same)
+      (λ i l. less-at q (row p u) v i _ _ (omega (arith, row-length p u)) (row-at p u i (omega arith)) refl))
 
   -- the row of p added to s
   sum-of-row : (q : ℕ) → addEach q s (row p u) ≡ tabulate (length s) (withRow q p s u)

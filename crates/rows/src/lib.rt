@@ -2,7 +2,7 @@
 ghost use mathlib.Core.Path.{_≡_};
 ghost use Prim.Native.Nat.{_+_, _<_, _≤_};
 ghost use lib.ListN.{length};
-ghost use Rattle.model.specs.Symbols.{Below, addEach, tabulate};
+ghost use Rattle.model.specs.Symbols.{Below, addEach, subEach, tabulate};
 ghost use Rattle.rows.specs.Rows.{row, withTwoParts, withTwoRows};
 
 // The row of p written over dst, in two straight runs.
@@ -13,6 +13,22 @@ pub fn copy_row(p: usize, dst: &mut [u8], src: &[u8])
     let rest = src.len() - p;
     slices::copy_into(&mut dst[p..], &src[..rest]);
     slices::copy_into(&mut dst[..p], &src[rest..]);
+}
+
+// The row of p less another list, written over dst, in two straight runs.
+pub fn copy_row_less(q: u32, p: usize, dst: &mut [u8], src: &[u8], less: &[u8])
+    requires { ⌜ (2 ≤ q)
+        × (q ≤ 256)
+        × (length (now dst) ≡ length (now src))
+        × (length (now less) ≡ length (now src))
+        × (p < length (now src))
+        × Below q (now src)
+        × Below q (now less) ⌝ }
+    ensures { λ _. ⌜ now (dst .exit) ≡ subEach q (row p (now (src .entry))) (now (less .entry)) ⌝ }
+{
+    let rest = src.len() - p;
+    symbols::sub_into(q, &mut dst[p..], &src[..rest], &less[p..]);
+    symbols::sub_into(q, &mut dst[..p], &src[rest..], &less[..p]);
 }
 
 // The row of p added to acc, in two straight runs.

@@ -69,13 +69,13 @@ fn add_two_bytes(acc: &mut [u8], xs: &[u8], ys: &[u8])
     }
 }
 
-fn sub_bytes(acc: &mut [u8], src: &[u8])
-    requires { ⌜ length (now acc) ≡ length (now src) ⌝ }
-    ensures { λ _. ⌜ now (acc .exit) ≡ subEach 256 (now (acc .entry)) (now (src .entry)) ⌝ }
+fn sub_bytes(dst: &mut [u8], xs: &[u8], ys: &[u8])
+    requires { ⌜ (length (now dst) ≡ length (now xs)) × (length (now dst) ≡ length (now ys)) ⌝ }
+    ensures { λ _. ⌜ now (dst .exit) ≡ subEach 256 (now (xs .entry)) (now (ys .entry)) ⌝ }
 {
     let mut i = 0;
-    while i < acc.len() {
-        acc[i] = sub_byte(acc[i], src[i]);
+    while i < dst.len() {
+        dst[i] = sub_byte(xs[i], ys[i]);
         i += 1;
     }
 }
@@ -107,13 +107,13 @@ fn add_two_symbols(top: u8, acc: &mut [u8], xs: &[u8], ys: &[u8])
     }
 }
 
-fn sub_symbols(top: u8, acc: &mut [u8], src: &[u8])
-    requires { ⌜ (length (now acc) ≡ length (now src)) × Below (top + 1) (now acc) × Below (top + 1) (now src) ⌝ }
-    ensures { λ _. ⌜ now (acc .exit) ≡ subEach (top + 1) (now (acc .entry)) (now (src .entry)) ⌝ }
+fn sub_symbols(top: u8, dst: &mut [u8], xs: &[u8], ys: &[u8])
+    requires { ⌜ (length (now dst) ≡ length (now xs)) × (length (now dst) ≡ length (now ys)) × Below (top + 1) (now xs) × Below (top + 1) (now ys) ⌝ }
+    ensures { λ _. ⌜ now (dst .exit) ≡ subEach (top + 1) (now (xs .entry)) (now (ys .entry)) ⌝ }
 {
     let mut i = 0;
-    while i < acc.len() {
-        acc[i] = sub_mod(top, acc[i], src[i]);
+    while i < dst.len() {
+        dst[i] = sub_mod(top, xs[i], ys[i]);
         i += 1;
     }
 }
@@ -148,14 +148,19 @@ pub fn add_two_into(q: u32, acc: &mut [u8], xs: &[u8], ys: &[u8])
     }
 }
 
-// src subtracted from acc, symbol by symbol.
-pub fn sub_into(q: u32, acc: &mut [u8], src: &[u8])
-    requires { ⌜ (2 ≤ q) × (q ≤ 256) × (length (now acc) ≡ length (now src)) × Below q (now acc) × Below q (now src) ⌝ }
-    ensures { λ _. ⌜ now (acc .exit) ≡ subEach q (now (acc .entry)) (now (src .entry)) ⌝ }
+// ys subtracted from xs, symbol by symbol, and written over dst.
+pub fn sub_into(q: u32, dst: &mut [u8], xs: &[u8], ys: &[u8])
+    requires { ⌜ (2 ≤ q)
+        × (q ≤ 256)
+        × (length (now dst) ≡ length (now xs))
+        × (length (now dst) ≡ length (now ys))
+        × Below q (now xs)
+        × Below q (now ys) ⌝ }
+    ensures { λ _. ⌜ now (dst .exit) ≡ subEach q (now (xs .entry)) (now (ys .entry)) ⌝ }
 {
     if q == 256 {
-        sub_bytes(acc, src);
+        sub_bytes(dst, xs, ys);
     } else {
-        sub_symbols((q - 1) as u8, acc, src);
+        sub_symbols((q - 1) as u8, dst, xs, ys);
     }
 }

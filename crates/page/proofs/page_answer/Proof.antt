@@ -1,7 +1,7 @@
 -- `page::page_answer` meets its contract.
 use borrow.Author.Needs.{needs}
 use borrow.Author.Tests.{not-true}
-use mathlib.Core.Path.{_≡_, sym, _∙_}
+use mathlib.Core.Path.{sym, _∙_}
 use native.Mathlib.Omega.{arith}
 use Rattle.theory.specs.Answers.{not-false, table-accepted, page-refused, page-taken}
 use Rattle.page.proofs.page_answer.Statement.{statement}

@@ -1,69 +1,90 @@
 -- `page::write_syndrome` meets its contract.
-use mathlib.Core.Path.{_≡_, sym, _∙_, ap, subst}
+use mathlib.Core.Path.{_≡_, sym, ap, subst, _∙_}
+use mathlib.Core.List.{List}
+use Prim.Native.Nat.{ℕ, _-_}
 use native.Mathlib.Omega.{arith}
-use Prim.Native.Nat.{ℕ}
-use lib.ListN.{length, take}
-use Rattle.model.specs.Code.{codeOf}
-use Rattle.theory.specs.Answers.{Limits}
-use Rattle.page.specs.Checks.{below-take, checks-subtractable, syndrome-written}
+use lib.ListN.{length, getD, take, drop, length-take, length-drop}
 use lib.Seq.{length-take-le}
+use Rattle.model.specs.Code.{codeOf}
+use Rattle.theory.specs.Answers.{Limits, position-below}
+use Rattle.theory.specs.Parts.{below-part}
+use Rattle.page.specs.Checks.{addRows, Sums, less-sums, syndrome-written}
 use borrow.Author.Needs.{needs}
 use Rattle.page.proofs.write_syndrome.Statement.{statement}
 use Rattle.page.proofs.write_syndrome.Tie as tie
 
-slice-aggregate-write-checks : tie.Need-slice-aggregate-write-checks
-slice-aggregate-write-checks c =
-    let a = c .before .before .before .before .args in
-    sym (length-take-le (length (a .s .now)) (a .page .now) (omega arith))
+shared-slice-read-first : tie.Need-shared-slice-read-first
+shared-slice-read-first c = search needs
 
-write-checks-requires : tie.Need-write-checks-requires
-write-checks-requires c κs =
-    let b = c .before .before .before .before .before in
-    let a = b .args in
-    let e : length (take (length (a .s .now)) (a .page .now)) ≡ length (a .s .now) = length-take-le (length (a .s .now)) (a .page .now) (omega arith) in (
-      subst (λ (k : ℕ). Limits (codeOf (a .q) k (a .positions .now))) (sym e) (b .pre .0),
-      below-take (a .q) (omega (arith, b .pre .0 .q-low)) (length (a .s .now))
-          (a .page .now) (b .pre .1),
-      sym e,
+cast-first : tie.Need-cast-first
+cast-first c = omega (arith, c .shared-slice-known3 .given 0)
+
+slice-aggregate-copy-row-less : tie.Need-slice-aggregate-copy-row-less
+slice-aggregate-copy-row-less c = let x = c .before .before .before .before .before .before .args in sym (length-take-le (length (x .s .now)) (x .page .now) (omega arith))
+
+sub-copy-row-less : tie.Need-sub-copy-row-less
+sub-copy-row-less c = search needs
+
+part-copy-row-less-start : tie.Need-part-copy-row-less-start
+part-copy-row-less-start c = search needs
+
+part-copy-row-less-end : tie.Need-part-copy-row-less-end
+part-copy-row-less-end c = search needs
+
+copy-row-less-requires : tie.Need-copy-row-less-requires
+copy-row-less-requires c κs =
+    let b = c .before .before .before .before .before .before .before in
+    let x = b .args in
+    let k : ℕ = length (x .s .now) in
+    let len : length (take k (x .page .now)) ≡ k = length-take-le k (x .page .now) (omega arith) in (
+      omega (arith, b .pre .0 .q-low),
+      b .pre .0 .q-high,
+      sym len,
+      simp (length-take, length-drop) (omega arith),
+      omega (arith, len, position-below _ (b .pre .0) 0 (b .pre .0 .J-low)),
+      below-part (x .q) (omega (arith, b .pre .0 .q-low)) 0 k (x .page .now) (b .pre .1),
+      below-part (x .q) (omega (arith, b .pre .0 .q-low)) k (length (x .page .now) - k) (x .page .now) (b .pre .1),
     )
 
-sub-sub-into : tie.Need-sub-sub-into
-sub-sub-into c = search needs
+slice-aggregate-add-rows : tie.Need-slice-aggregate-add-rows
+slice-aggregate-add-rows c = let x = c .before .before .before .before .before .before .before .before .before .before .before .args in sym (length-take-le (length (x .s .now)) (x .page .now) (omega arith))
 
-part-sub-into-start : tie.Need-part-sub-into-start
-part-sub-into-start c = search needs
-
-part-sub-into-end : tie.Need-part-sub-into-end
-part-sub-into-end c = search needs
-
-sub-into-requires : tie.Need-sub-into-requires
-sub-into-requires c κs =
-    let b = c .before .before .before .before .before .before .before .before .before .before in
-    let a = b .args in
-    let f = checks-subtractable (a .q) (length (a .s .now)) (a .positions .now) (a .page .now) _ (omega (arith, b .pre .0 .q-low)) (b .pre .2)
-    (c .before .before .before .before .write-checks .ensures) in
-    (omega (arith, b .pre .0 .q-low), b .pre .0 .q-high, f .0, f .1, f .2 (b .pre .1))
+add-rows-requires : tie.Need-add-rows-requires
+add-rows-requires c κs =
+    let b = c .before .before .before .before .before .before .before .before .before .before .before .before in
+    let x = b .args in
+    let k : ℕ = length (x .s .now) in
+    let u : List ℕ = take k (x .page .now) in
+    let low = below-part (x .q) (omega (arith, b .pre .0 .q-low)) 0 k (x .page .now) (b .pre .1) in (
+      subst (λ (n : ℕ). Limits (codeOf (x .q) n (x .positions .now))) (sym (length-take-le k (x .page .now) (omega arith))) (b .pre .0),
+      low,
+      subst (Sums (x .q) u) (sym (c .before .before .before .before .copy-row-less .ensures))
+          (less-sums (x .q) (omega (arith, b .pre .0 .q-low)) u low (getD (x .positions .now) 0 0) (take (length (x .page .now) - k) (drop k (x .page .now)))),
+    )
 
 same-length : tie.Need-same-length
 same-length c = search needs
 
 returns : tie.Need-returns
 returns c =
-    let b = c .before .before .before .before .before .before .before .before .before .before .before .before .before in
-    let a = b .args in
-    c .before .before .sub-into .ensures
-    ∙ syndrome-written (a .q) (length (a .s .now)) (a .positions .now) (a .page .now) _ (omega (arith, b .pre .0 .q-low)) (b .pre .2)
-    (c .before .before .before .before .before .before .before .write-checks .ensures)
+    let b = c .before .before .before .before .before .before .before .before .before .before .before .before .before .before .before in
+    let x = b .args in
+    let k : ℕ = length (x .s .now) in
+    c .before .before .add-rows .ensures ∙ ap (λ (s : List ℕ). addRows (x .q) (drop 1 (x .positions .now)) (take k (x .page .now)) s) (c .before .before .before .before .before .before .before .copy-row-less .ensures)
+    ∙ syndrome-written (x .q) (omega (arith, b .pre .0 .q-low)) k (x .positions .now) (x .page .now) (b .pre .0 .J-low) (b .pre .1) (b .pre .2)
 
 pub write-syndrome-spec : {M : Type 1} → statement M
 write-syndrome-spec =
     tie.close
     (tie.spec
-    slice-aggregate-write-checks
-    write-checks-requires
-    sub-sub-into
-    part-sub-into-start
-    part-sub-into-end
-    sub-into-requires
+    shared-slice-read-first
+    cast-first
+    slice-aggregate-copy-row-less
+    sub-copy-row-less
+    part-copy-row-less-start
+    part-copy-row-less-end
+    copy-row-less-requires
+    slice-aggregate-add-rows
+    add-rows-requires
     same-length
     returns)

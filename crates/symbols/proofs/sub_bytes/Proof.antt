@@ -1,33 +1,34 @@
 -- `symbols::sub_bytes` meets its contract. Assumes nothing.
 use borrow.Author.Needs.{needs}
-use Prim.Native.Nat.{_-_}
+use mathlib.Core.Path.{ap, _∙_}
+use Prim.Native.Nat.{ℕ, _-_}
 use native.Mathlib.Omega.{arith}
 use lib.ListN.{length, getD}
-use Rattle.model.specs.Symbols.{sub, subEach}
+use Rattle.model.specs.Symbols.{sub, subEach, tabulate}
 use Rattle.theory.specs.Written.{Written, opened, turned, closed}
 use Rattle.symbols.proofs.sub_bytes.Statement.{statement}
 use Rattle.symbols.proofs.sub_bytes.Tie as tie
 
 abbrev Inv-loop : tie.InvT-loop
-Inv-loop acc₀ src i₀ acc i = Written (λ l x. sub 256 x (getD src l 0)) acc₀ i acc
+Inv-loop dst₀ xs ys i₀ dst i = Written (λ l x. sub 256 (getD xs l 0) (getD ys l 0)) dst₀ i dst
 
 abbrev μ-loop : tie.MeasureT-loop
-μ-loop acc₀ src i₀ acc i = length acc₀ - i
+μ-loop dst₀ xs ys i₀ dst i = length dst₀ - i
 
 loop-holds : tie.Need-loop-holds Inv-loop μ-loop
 loop-holds c = opened _ _
 
-slice-read-sub-byte : tie.Need-slice-read-sub-byte Inv-loop μ-loop
-slice-read-sub-byte c = omega arith
-
 shared-slice-read-sub-byte : tie.Need-shared-slice-read-sub-byte Inv-loop μ-loop
 shared-slice-read-sub-byte c = omega arith
+
+shared-slice-read-sub-byte-2 : tie.Need-shared-slice-read-sub-byte-2 Inv-loop μ-loop
+shared-slice-read-sub-byte-2 c = omega arith
 
 sub-byte-requires : tie.Need-sub-byte-requires Inv-loop μ-loop
 sub-byte-requires c κs = search needs
 
-slice-write-acc : tie.Need-slice-write-acc Inv-loop μ-loop
-slice-write-acc c = omega arith
+slice-write-dst : tie.Need-slice-write-dst Inv-loop μ-loop
+slice-write-dst c = omega arith
 
 add-i : tie.Need-add-i Inv-loop μ-loop
 add-i c = omega arith
@@ -43,7 +44,9 @@ same-length c = omega arith
 
 returns : tie.Need-returns Inv-loop μ-loop
 unfolding subEach
-returns c = closed (c .before .loop .inv) (omega arith)
+returns c =
+    let a = c .before .before .before .before .before in
+    closed (c .before .loop .inv) (omega arith) ∙ ap (λ (n : ℕ). tabulate n (λ l. sub 256 (getD (a .args .xs .now) l 0) (getD (a .args .ys .now) l 0))) (a .pre .0)
 
 pub sub-bytes-spec : {M : Type 1} → statement M
 sub-bytes-spec =
@@ -52,10 +55,10 @@ sub-bytes-spec =
     Inv-loop
     μ-loop
     loop-holds
-    slice-read-sub-byte
     shared-slice-read-sub-byte
+    shared-slice-read-sub-byte-2
     sub-byte-requires
-    slice-write-acc
+    slice-write-dst
     add-i
     loop-less
     loop-again

@@ -18,24 +18,24 @@ cast-sub-symbols c = search needs
 
 sub-symbols-requires : tie.Need-sub-symbols-requires
 sub-symbols-requires c κs =
-    let p = c .before .before .before .before .pre in
-    (omega arith, λ i. omega (arith, p .3 i), λ i. omega (arith, p .4 i))
+    let p = c .before .before .before .before .before .pre in
+    (omega arith, omega arith, λ i. omega (arith, p .4 i), λ i. omega (arith, p .5 i))
 
 same-length : tie.Need-same-length
 same-length c = search needs
 
 returns : tie.Need-returns
 returns c =
-    let a = c .before .before .before .before .before .before .before .args in
-    c .before .before .sub-bytes .ensures ∙ ap (λ (n : ℕ). subEach n (a .acc .now) (a .src .now)) (omega arith)
+    let a = c .before .before .before .before .before .before .before .before .args in
+    c .before .before .sub-bytes .ensures ∙ ap (λ (n : ℕ). subEach n (a .xs .now) (a .ys .now)) (omega arith)
 
 same-length-2 : tie.Need-same-length-2
 same-length-2 c = search needs
 
 returns-2 : tie.Need-returns-2
 returns-2 c =
-    let a = c .before .before .before .before .before .before .before .args in
-    c .before .before .sub-symbols .ensures ∙ ap (λ (n : ℕ). subEach n (a .acc .now) (a .src .now)) (omega arith)
+    let a = c .before .before .before .before .before .before .before .before .args in
+    c .before .before .sub-symbols .ensures ∙ ap (λ (n : ℕ). subEach n (a .xs .now) (a .ys .now)) (omega arith)
 
 pub sub-into-spec : {M : Type 1} → statement M
 sub-into-spec =

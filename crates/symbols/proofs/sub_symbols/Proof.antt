@@ -1,35 +1,35 @@
 -- `symbols::sub_symbols` meets its contract. Assumes nothing.
-use Prim.Native.Nat.{_+_, _-_}
+use mathlib.Core.Path.{ap, _∙_}
+use Prim.Native.Nat.{ℕ, _+_, _-_}
 use native.Mathlib.Omega.{arith}
 use lib.ListN.{length, getD}
-use Rattle.model.specs.Symbols.{sub, subEach}
-use Rattle.theory.specs.Written.{Written, opened, kept, turned, closed}
+use Rattle.model.specs.Symbols.{sub, subEach, tabulate}
+use Rattle.theory.specs.Written.{Written, opened, turned, closed}
 use Rattle.symbols.proofs.sub_symbols.Statement.{statement}
 use Rattle.symbols.proofs.sub_symbols.Tie as tie
 
 abbrev Inv-loop : tie.InvT-loop
-Inv-loop top acc₀ src i₀ acc i = Written (λ l x. sub (top + 1) x (getD src l 0)) acc₀ i acc
+Inv-loop top dst₀ xs ys i₀ dst i = Written (λ l x. sub (top + 1) (getD xs l 0) (getD ys l 0)) dst₀ i dst
 
 abbrev μ-loop : tie.MeasureT-loop
-μ-loop top acc₀ src i₀ acc i = length acc₀ - i
+μ-loop top dst₀ xs ys i₀ dst i = length dst₀ - i
 
 loop-holds : tie.Need-loop-holds Inv-loop μ-loop
 loop-holds c = opened _ _
 
-slice-read-sub-mod : tie.Need-slice-read-sub-mod Inv-loop μ-loop
-slice-read-sub-mod c = omega arith
-
 shared-slice-read-sub-mod : tie.Need-shared-slice-read-sub-mod Inv-loop μ-loop
 shared-slice-read-sub-mod c = omega arith
+
+shared-slice-read-sub-mod-2 : tie.Need-shared-slice-read-sub-mod-2 Inv-loop μ-loop
+shared-slice-read-sub-mod-2 c = omega arith
 
 sub-mod-requires : tie.Need-sub-mod-requires Inv-loop μ-loop
 sub-mod-requires c κs =
     let l = c .before .before .before .loop in
-    let p = c .before .before .before .before .before .before .pre in
-    omega (arith, kept (l .inv) (omega arith), p .1 (l .i), p .2 (l .i))
+    let p = c .before .before .before .before .before .before .before .pre in omega (arith, p .2 (l .i), p .3 (l .i))
 
-slice-write-acc : tie.Need-slice-write-acc Inv-loop μ-loop
-slice-write-acc c = omega arith
+slice-write-dst : tie.Need-slice-write-dst Inv-loop μ-loop
+slice-write-dst c = omega arith
 
 add-i : tie.Need-add-i Inv-loop μ-loop
 add-i c = omega arith
@@ -45,7 +45,9 @@ same-length c = omega arith
 
 returns : tie.Need-returns Inv-loop μ-loop
 unfolding subEach
-returns c = closed (c .before .loop .inv) (omega arith)
+returns c =
+    let a = c .before .before .before .before .before in
+    closed (c .before .loop .inv) (omega arith) ∙ ap (λ (n : ℕ). tabulate n (λ l. sub (a .args .top + 1) (getD (a .args .xs .now) l 0) (getD (a .args .ys .now) l 0))) (a .pre .0)
 
 pub sub-symbols-spec : {M : Type 1} → statement M
 sub-symbols-spec =
@@ -54,10 +56,10 @@ sub-symbols-spec =
     Inv-loop
     μ-loop
     loop-holds
-    slice-read-sub-mod
     shared-slice-read-sub-mod
+    shared-slice-read-sub-mod-2
     sub-mod-requires
-    slice-write-acc
+    slice-write-dst
     add-i
     loop-less
     loop-again
