@@ -1,8 +1,8 @@
 -- The decoder's steps: visit, pass, run, and what decoding a page gives.
 -- A step depends on the code by q and by the checks of each data symbol alone, which are its first parameters.
-use mathlib.Core.Bool.{Bool, true, false, not, _&&_}
+use mathlib.Core.Bool.{Bool, not, _&&_}
 use mathlib.Core.List.{List, [], _∷_, _++_}
-use Prim.Native.Nat.{ℕ, zero, suc, _+_, _-_}
+use Prim.Native.Nat.{ℕ, _+_, _-_}
 use lib.Dec.{eqb, ltb}
 use lib.ListN.{length, getD, set}
 use Rattle.model.specs.Symbols.{choose, bit, sub, distance, tabulate, symbolsAt, subtractAt}

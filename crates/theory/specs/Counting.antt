@@ -248,16 +248,3 @@ pub misses-symbolsAt : (e : ℕ) (s is : List ℕ) → misses e (symbolsAt s is)
 unfolding misses symbolsAt sumOver
 misses-symbolsAt e s [] = refl
 misses-symbolsAt e s (i ∷ is) = omega (arith, misses-symbolsAt e s is)
-
-pub distance-set : (xs ys : List ℕ) (i v : ℕ) → i < length xs → length xs ≡ length ys
-    → distance (set xs i v) ys + differ (getD xs i 0) (getD ys i 0) ≡ distance xs ys + differ v (getD ys i 0)
-unfolding distance
-distance-set [] ys i v h e = absurd (not-suc-le-zero h)
-distance-set (x ∷ xs) [] i v h e = absurd (suc-ne-zero (length xs) e)
-distance-set (x ∷ xs) (y ∷ ys) zero v h e = omega arith
-distance-set (x ∷ xs) (y ∷ ys) (suc i) v h e = omega (arith, distance-set xs ys i v (le-of-suc-le-suc h) (suc-inj e))
-
-pub distance-same : (xs : List ℕ) → distance xs xs ≡ 0
-unfolding distance
-distance-same [] = refl
-distance-same (x ∷ xs) = omega (arith, distance-same xs, differ-no x x refl)

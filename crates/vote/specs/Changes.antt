@@ -1,15 +1,13 @@
 -- When a visit is a change, by the counts that a vote gives, and when it is none, by a count of each value.
-use mathlib.Core.Path.{_≡_, refl, sym}
-use mathlib.Core.Logic.{_≢_}
-use mathlib.Core.Bool.{false, not, _&&_}
+use mathlib.Core.Path.{_≡_}
+use mathlib.Core.Bool.{false}
 use mathlib.Core.List.{List}
 use Prim.Native.Nat.{ℕ, _+_, _-_, _≤_}
 use native.Mathlib.Omega.{arith}
-use lib.Dec.{eqb, ltb}
 use lib.ListN.{length}
 use Rattle.model.specs.Decoder.{isChange}
 use Rattle.model.specs.Symbols.{count}
-use Rattle.model.specs.Vote.{leader, leadCount, nextCount}
+use Rattle.model.specs.Vote.{leader, leadCount}
 use Rattle.theory.specs.Counting.{is-false, count-misses, count-other}
 use Rattle.theory.specs.Falling.{isChange-facts}
 use Rattle.theory.specs.Voting.{next-max}

@@ -7,7 +7,7 @@ use Prim.Native.Nat.{_+_}
 use native.Mathlib.Omega.{arith}
 use lib.Dec.{eqb}
 use lib.ListN.{length}
-use Rattle.model.specs.Code.{codeOf, pageLength}
+use Rattle.model.specs.Code.{codeOf}
 use Rattle.model.specs.Calls.{firstThatApplies, pageTests, stateFits}
 use Rattle.theory.specs.Answers.{not-false, within-make, within-below, within-above, decode-refused, decode-taken}
 use Rattle.decoder.proofs.decode_answer.Statement.{statement}

@@ -1,10 +1,10 @@
 -- `decoder::decode_page` meets its contract.
 use borrow.Author.Needs.{needs}
-use mathlib.Core.Path.{_≡_, refl, sym, _∙_, ap, subst}
+use mathlib.Core.Path.{refl, sym, _∙_, ap, subst}
 use Rattle.model.specs.Code.{codeOf}
 use Rattle.model.specs.Decoder.{State, opened}
 use Rattle.counts.specs.declared.Tally.{Tally}
-use Rattle.passes.specs.Progress.{Ready, progress, runOf, both}
+use Rattle.passes.specs.Progress.{Ready, runOf, both}
 use Rattle.decoder.specs.Decodes.{opened-ready, clean-decoded, run-decoded, run-lengths}
 use Rattle.decoder.proofs.decode_page.Statement.{statement}
 use Rattle.decoder.proofs.decode_page.Tie as tie

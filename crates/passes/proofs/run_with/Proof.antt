@@ -1,9 +1,7 @@
 -- `passes::run_with` meets its contract.
 use borrow.Author.Needs.{needs}
-use mathlib.Core.Path.{_≡_, sym, _∙_, ap, subst}
-use mathlib.Core.List.{List}
+use mathlib.Core.Path.{sym, _∙_, ap, subst}
 use Prim.Native.Nat.{ℕ}
-use native.Mathlib.Omega.{arith}
 use lib.ListN.{length}
 use Rattle.zeros.specs.Counts.{AllChecks, zeroCounts}
 use Rattle.passes.specs.Progress.{all-checks-of}
