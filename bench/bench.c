@@ -1,7 +1,7 @@
 /* bench.c - measures the library beside the same calls in C, in one run:  bench [--quick] [--ns] [--rows FILTER]
  *
- * Every page is first put through all implementations, and all they return and write is compared. Then, row by row and
- * round by round, each implementation runs in turn; its fastest round counts.
+ * Every page is first put through all implementations, and all they return and write is compared. Then, sweep by sweep,
+ * row by row and round by round, each implementation runs in turn; its fastest round counts.
  *
  *   --quick         fewer and shorter rounds
  *   --ns            nanoseconds a data byte for all, instead of ratios
@@ -69,6 +69,9 @@ enum { ALPHABETS = sizeof alphabets / sizeof alphabets[0] };
 
 static const uint32_t damages[] = {0, 1, 5, 10}; /* symbols replaced, in percent */
 enum { DAMAGES = sizeof damages / sizeof damages[0] };
+
+/* A table check, an encode and a syndrome, and a decode for each damage. */
+enum { MAX_ROWS = CODES * ALPHABETS * (3 + DAMAGES) };
 
 enum call { CHECK_TABLE, ENCODE, SYNDROME, DECODE };
 static const char *const call_names[] = {"check_table", "encode", "syndrome", "decode"};
@@ -248,13 +251,15 @@ static double time_calls(const struct implementation *by, const struct row *row,
     return (now() - start) / repetitions;
 }
 
-/* The fastest round of each implementation, in nanoseconds a call. */
+/* The fastest round of each implementation so far, in nanoseconds a call; 0 before the first. */
 static void measure(const struct row *row, int rounds, double batch, double *best)
 {
     unsigned repetitions[IMPLEMENTATIONS];
     for (int i = 0; i < IMPLEMENTATIONS; i++) {
         time_calls(&implementations[i], row, 1);
-        best[i] = time_calls(&implementations[i], row, 1);
+        double once = time_calls(&implementations[i], row, 1);
+        if (best[i] == 0 || once < best[i])
+            best[i] = once;
         double wanted = batch / (best[i] > 20 ? best[i] : 20);
         repetitions[i] = wanted < 1 ? 1 : (unsigned)wanted;
     }
@@ -327,33 +332,38 @@ int main(int argc, char **argv)
             return 2;
         }
 
-    int rounds = quick ? 5 : 120, rows = 0;
+    /* The whole table is swept several times: a burst of other load then spoils one sweep of a row, not all. */
+    int sweeps = quick || count ? 1 : 4, rounds = quick ? 5 : 30, rows = 0;
     double batch = quick ? 5e5 : 2e6;
+    static double best[MAX_ROWS][IMPLEMENTATIONS];
     if (!count)
         print_head(ns);
-    for (int c = 0; c < CODES; c++)
-        for (int a = 0; a < ALPHABETS; a++)
-            for (enum call call = CHECK_TABLE; call <= DECODE; call++)
-                for (int d = 0; d < DAMAGES; d++) {
-                    static struct row row;
-                    static struct answer answer;
-                    double best[IMPLEMENTATIONS];
-                    /* A table check does not depend on q; only a decode depends on the damage. */
-                    if ((call == CHECK_TABLE && a > 0) || (call != DECODE && d > 0))
-                        continue;
-                    make_row(&row, &codes[c], alphabets[a], call, damages[d]);
-                    if (strstr(row.name, filter) == NULL || (count && !to_count(&row, damages[d])))
-                        continue;
-                    rows++;
-                    if (count) {
-                        count_row(&row);
-                        continue;
+    for (int sweep = 0; sweep < sweeps; sweep++) {
+        rows = 0;
+        for (int c = 0; c < CODES; c++)
+            for (int a = 0; a < ALPHABETS; a++)
+                for (enum call call = CHECK_TABLE; call <= DECODE; call++)
+                    for (int d = 0; d < DAMAGES; d++) {
+                        static struct row row;
+                        static struct answer answer;
+                        /* A table check does not depend on q; only a decode depends on the damage. */
+                        if ((call == CHECK_TABLE && a > 0) || (call != DECODE && d > 0))
+                            continue;
+                        make_row(&row, &codes[c], alphabets[a], call, damages[d]);
+                        if (strstr(row.name, filter) == NULL || (count && !to_count(&row, damages[d])))
+                            continue;
+                        if (count) {
+                            count_row(&row);
+                        } else {
+                            if (!agree(&row, &answer))
+                                return 1;
+                            measure(&row, rounds, batch, best[rows]);
+                            if (sweep == sweeps - 1)
+                                print_row(&row, best[rows], &answer, ns);
+                        }
+                        rows++;
                     }
-                    if (!agree(&row, &answer))
-                        return 1;
-                    measure(&row, rounds, batch, best);
-                    print_row(&row, best, &answer, ns);
-                }
+    }
     if (rows == 0) {
         fprintf(stderr, "no row has \"%s\" in its name\n", filter);
         return 2;

@@ -63,6 +63,17 @@ uint32_t CALL(check_table)(uint32_t q, uint32_t k, const uint8_t *table, size_t 
 
 /* ---- Whole runs of symbols ---- */
 
+/* The archive takes nothing but memset from the C library, so neither does this; with -DLIBC_COPY it copies by memcpy. */
+#ifdef LIBC_COPY
+#define copy_run memcpy
+#else
+static void copy_run(uint8_t *restrict to, const uint8_t *restrict symbols, size_t n)
+{
+    for (size_t i = 0; i < n; i++)
+        to[i] = symbols[i];
+}
+#endif
+
 enum { LANES = 64 };
 
 /* Is a symbol q or more? Looks at all of them, in lanes: without an early exit the loop runs on vectors. */
@@ -126,26 +137,42 @@ static void add_run(uint32_t q, uint8_t *restrict sums, const uint8_t *restrict 
             sums[i] = add((uint8_t)q, sums[i], symbols[i]);
 }
 
-static void subtract_run(uint32_t q, uint8_t *restrict sums, const uint8_t *restrict symbols, size_t n)
+static void add_two_runs(uint32_t q, uint8_t *restrict sums, const uint8_t *restrict one, const uint8_t *restrict other,
+                         size_t n)
 {
     if (q == 256)
         for (size_t i = 0; i < n; i++)
-            sums[i] = (uint8_t)(sums[i] - symbols[i]);
+            sums[i] = (uint8_t)(sums[i] + one[i] + other[i]);
     else
         for (size_t i = 0; i < n; i++)
-            sums[i] = subtract((uint8_t)q, sums[i], symbols[i]);
+            sums[i] = add((uint8_t)q, add((uint8_t)q, sums[i], one[i]), other[i]);
 }
 
-/* The sums of the data symbols in each check. The row of a position is the data rotated by it, as two straight runs;
- * the first row is copied, the others are added. */
-static void sum_rows(uint32_t q, size_t k, const struct positions *positions, const uint8_t *restrict data,
+static void write_difference(uint32_t q, uint8_t *restrict to, const uint8_t *restrict symbols,
+                             const uint8_t *restrict less, size_t n)
+{
+    if (q == 256)
+        for (size_t i = 0; i < n; i++)
+            to[i] = (uint8_t)(symbols[i] - less[i]);
+    else
+        for (size_t i = 0; i < n; i++)
+            to[i] = subtract((uint8_t)q, symbols[i], less[i]);
+}
+
+/* Adds the rows of all positions but the first. The row of a position is the data rotated by it; two rows are added in
+ * one pass, as three straight runs, so that a sum is loaded and stored once for both. */
+static void add_rows(uint32_t q, size_t k, const struct positions *positions, const uint8_t *restrict data,
                      uint8_t *restrict sums)
 {
-    size_t p = positions->at[0];
-    memcpy(sums + p, data, k - p);
-    memcpy(sums, data + (k - p), p);
-    for (size_t a = 1; a < positions->count; a++) {
-        p = positions->at[a];
+    size_t a = 1;
+    for (; a + 1 < positions->count; a += 2) {
+        size_t p = positions->at[a], r = positions->at[a + 1];
+        add_two_runs(q, sums + r, data + (r - p), data, k - r);
+        add_two_runs(q, sums + p, data, data + (k - r + p), r - p);
+        add_two_runs(q, sums, data + (k - p), data + (k - r), p);
+    }
+    if (a < positions->count) {
+        size_t p = positions->at[a];
         add_run(q, sums + p, data, k - p);
         add_run(q, sums, data + (k - p), p);
     }
@@ -163,16 +190,22 @@ uint32_t CALL(encode)(uint32_t q, uint32_t k, const uint8_t *table, size_t table
     if (out_of_range(q, data, k))
         return QMTD_BAD_SYMBOL;
 
-    memcpy(page, data, k);
-    sum_rows(q, k, &positions, data, page + k);
+    size_t p = positions.at[0];
+    copy_run(page, data, k);
+    copy_run(page + k + p, data, k - p);
+    copy_run(page + k, data + (k - p), p);
+    add_rows(q, k, &positions, data, page + k);
     return QMTD_OK;
 }
 
+/* The page's checks are subtracted from the first row as it is written. */
 static void work_out_syndrome(uint32_t q, size_t k, const struct positions *positions, const uint8_t *restrict page,
                               uint8_t *restrict syndrome)
 {
-    sum_rows(q, k, positions, page, syndrome);
-    subtract_run(q, syndrome, page + k, k);
+    size_t p = positions->at[0];
+    write_difference(q, syndrome + p, page, page + k + p, k - p);
+    write_difference(q, syndrome, page + (k - p), page + k, p);
+    add_rows(q, k, positions, page, syndrome);
 }
 
 uint32_t CALL(syndrome)(uint32_t q, uint32_t k, const uint8_t *table, size_t table_len,
@@ -296,7 +329,7 @@ uint32_t CALL(decode)(uint32_t q, uint32_t k, const uint8_t *table, size_t table
     if (out_of_range(QMTD_MAX_THRESHOLD + 1, thresholds, thresholds_len))
         return QMTD_BAD_THRESHOLD;
 
-    memcpy(result, page, k);
+    copy_run(result, page, k);
     memset(difference, 0, k);
     work_out_syndrome(q, k, &positions, page, syndrome);
 
