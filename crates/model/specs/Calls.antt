@@ -37,18 +37,14 @@ unfoldable pub allBelow : ℕ → List ℕ → Bool
 allBelow q [] = true
 allBelow q (x ∷ xs) = ltb x q && allBelow q xs
 
--- 1 to 4, the limits of the table of quantities: q from 3 to 256, k from 1 to 4,096, J from 1 to 32, positions "strictly ascending, each below k"
-unfoldable pub codeTests : Code → List Test
-codeTests c =
-    test 1 (not (within 3 256 (c .q)))
-    ∷ test 2 (not (within 1 4096 (c .k)))
-    ∷ test 3 (not (within 1 32 (checksEach c)))
-    ∷ test 4 (not (positionsFit (c .k) 0 (c .positions)))
-    ∷ []
+-- 1 to 3, by the table of quantities: q from 3 to 256, k from 1 to 4,096, J from 1 to 32
+unfoldable pub sizeTests : ℕ → ℕ → ℕ → List Test
+sizeTests q k J = test 1 (not (within 3 256 q)) ∷ test 2 (not (within 1 4096 k)) ∷ test 3 (not (within 1 32 J)) ∷ []
 
--- 1 to 5, which all calls have
+-- 1 to 5, which all calls have. 4: positions "strictly ascending, each below k"; 5: "the table isn't self-orthogonal"
 unfoldable pub tableTests : Code → List Test
-tableTests c = codeTests c ++ (test 5 (not (selfOrthogonal c)) ∷ [])
+tableTests c =
+    sizeTests (c .q) (c .k) (checksEach c) ++ (test 4 (not (positionsFit (c .k) 0 (c .positions))) ∷ test 5 (not (selfOrthogonal c)) ∷ [])
 
 -- 6: "a lent buffer is not exactly as long as the call needs", where `fits` says whether all of them are; 7: "a symbol of the input is q or more"
 unfoldable pub pageTests : Code → Bool → List ℕ → List Test
@@ -61,20 +57,20 @@ thresholdTests thresholds = test 8 (not (within 1 64 (length thresholds))) ∷ t
 -- ---- the lengths that a call needs: "page 2 times k; data, result, S and D k each"
 
 -- encode reads data and lends a page
-unfoldable pub encodeFits : Code → ℕ → ℕ → Bool
+abbrev pub encodeFits : Code → ℕ → ℕ → Bool
 encodeFits c dataLen pageLen = eqb dataLen (dataCount c) && eqb pageLen (pageLength c)
 
 -- syndrome reads a page and lends S
-unfoldable pub syndromeFits : Code → ℕ → ℕ → Bool
+abbrev pub syndromeFits : Code → ℕ → ℕ → Bool
 syndromeFits c pageLen syndromeLen = eqb pageLen (pageLength c) && eqb syndromeLen (checkCount c)
 
 -- the result, S and D
-unfoldable pub stateFits : Code → State → Bool
+abbrev pub stateFits : Code → State → Bool
 stateFits c lent =
     eqb (length (lent .result)) (dataCount c) && (eqb (length (lent .syndrome)) (checkCount c) && eqb (length (lent .difference)) (dataCount c))
 
 -- decode reads a page and lends the result, S and D
-unfoldable pub decodeFits : Code → List ℕ → State → Bool
+abbrev pub decodeFits : Code → List ℕ → State → Bool
 decodeFits c page lent = eqb (length page) (pageLength c) && stateFits c lent
 
 -- ---- the numbers

@@ -12,7 +12,7 @@ use Rattle.model.specs.Symbols.{sub, same, differ, count, distance, sumO
 use Rattle.model.specs.Code.{Code, codeOf, dataCount, checkCount, pageLength, checksOf, checksBy, checkSumBy, checkSymbol, checkSymbols, codeWord, syndrome, shared, everyBelow, selfOrthogonal, differencesFrom, differencesBy, differences, allDifferent}
 use Rattle.model.specs.Vote.{firstOf, leader, leadCount, otherCount, nextCount, Votes, votes}
 use Rattle.model.specs.Decoder.{State, Visit, Counts, estimates, isChange, change, changes, visit, after, changeCount, pass, passes, thresholdsRun, opened, passesOf, run, distanceTo, decodedState, decodedCounts}
-use Rattle.model.specs.Calls.{firstThatApplies, within, positionsFit, allBelow, codeTests, tableTests, pageTests, thresholdTests, encodeFits, stateFits, decodeFits, tableAnswer, encodeAnswer, decodeAnswer, Outcome, outcome, encodeOutcome, Decoded, decodeOutcome, decodeOutcomeBy}
+use Rattle.model.specs.Calls.{firstThatApplies, within, positionsFit, allBelow, sizeTests, tableTests, pageTests, thresholdTests, tableAnswer, encodeAnswer, decodeAnswer, Outcome, outcome, encodeOutcome, Decoded, decodeOutcome, decodeOutcomeBy}
 use Rattle.model.specs.Demand.{VisitFalls, WithinBound}
 
 -- A row: a call's inputs, and what it must give.
@@ -35,7 +35,7 @@ lent n = tabulate n (λ i. 165)
 
 -- the row with what the definitions give for its inputs
 computed : Row → Row
-unfolding firstThatApplies within positionsFit allBelow codeTests tableTests pageTests thresholdTests encodeFits stateFits decodeFits tableAnswer encodeAnswer decodeAnswer outcome encodeOutcome decodeOutcomeBy
+unfolding firstThatApplies within positionsFit allBelow sizeTests tableTests pageTests thresholdTests tableAnswer encodeAnswer decodeAnswer outcome encodeOutcome decodeOutcomeBy
     checksBy checkSumBy checkSymbol checkSymbols codeWord syndrome shared everyBelow selfOrthogonal differencesFrom differencesBy allDifferent
     firstOf leader leadCount otherCount nextCount estimates isChange change changes visit after changeCount pass passes thresholdsRun opened passesOf run distanceTo decodedState decodedCounts
     sub same differ count distance sumOver tabulate symbolsAt subtractAt lent

@@ -10,7 +10,7 @@ use lib.Dec.{T, eqb, ltb, leb, eqb→eq, ltb→lt, leb→le, le→leb}
 use lib.ListN.{length, take}
 use lib.Seq.{take-at}
 use borrow.Author.Tests.{lt-leb}
-use Rattle.model.specs.Calls.{Test, test, firstThatApplies, within, positionsFit, allBelow, codeTests, tableTests, pageTests, thresholdTests, encodeFits, stateFits, decodeFits, tableAnswer, encodeAnswer, decodeAnswer}
+use Rattle.model.specs.Calls.{Test, test, firstThatApplies, within, positionsFit, allBelow, sizeTests, tableTests, pageTests, thresholdTests, encodeFits, stateFits, decodeFits, tableAnswer, encodeAnswer, decodeAnswer}
 use Rattle.model.specs.Code.{Code, dataCount, checkCount, pageLength, checksEach, checkSymbols, codeWord, dataOf, selfOrthogonal}
 use Rattle.model.specs.Decoder.{State}
 use Rattle.model.specs.Demand.{Encodes}
@@ -116,44 +116,36 @@ all-below q pos (x ∷ xs) e (suc i) = all-below q pos xs (and-true (ltb x q) (a
 
 -- ---- the table
 
--- the limits of a code are those that its tests let through
-limits-of : (c : Code) → firstThatApplies (codeTests c) ≡ 0 → Limits c
-unfolding codeTests
-limits-of c e =
+-- the table check answers 0 if and only if the limits hold and the test of shared checks does
+pub table-accepted : (c : Code) → tableAnswer c ≡ 0 → Limits c × (selfOrthogonal c ≡ true)
+unfolding tableAnswer tableTests sizeTests
+table-accepted c e =
     let t1 = taken-by 0 (within 3 256 (c .q)) _ e in
     let t2 = taken-by 1 (within 1 4096 (c .k)) _ (t1 .1) in
     let t3 = taken-by 2 (within 1 32 (checksEach c)) _ (t2 .1) in
     let t4 = taken-by 3 (positionsFit (c .k) 0 (c .positions)) _ (t3 .1) in
+    let t5 = taken-by 4 (selfOrthogonal c) [] (t4 .1) in
     let q = within-facts 3 256 (c .q) (t1 .0) in
     let k = within-facts 1 4096 (c .k) (t2 .0) in
-    let J = within-facts 1 32 (checksEach c) (t3 .0) in
-    record {
-      q-low = q .0;
-      q-high = q .1;
-      table = record { k-low = k .0; k-high = k .1; J-low = J .0; J-high = J .1; ascending = fit-test (c .k) (c .positions) .0 (t4 .0) };
-    }
+    let J = within-facts 1 32 (checksEach c) (t3 .0) in (
+      record {
+        q-low = q .0;
+        q-high = q .1;
+        table = record { k-low = k .0; k-high = k .1; J-low = J .0; J-high = J .1; ascending = fit-test (c .k) (c .positions) .0 (t4 .0) };
+      },
+      t5 .0,
+    )
 
-of-limits : (c : Code) → Limits c → firstThatApplies (codeTests c) ≡ 0
-unfolding codeTests
-of-limits c l =
+pub table-accepts : (c : Code) → Limits c → selfOrthogonal c ≡ true → tableAnswer c ≡ 0
+unfolding tableAnswer tableTests sizeTests
+table-accepts c l o =
     let t = l .table in
     passed-by 1 (within 3 256 (c .q)) _ (within-make 3 256 (c .q) (l .q-low) (l .q-high))
     ∙ passed-by 2 (within 1 4096 (c .k)) _ (within-make 1 4096 (c .k) (t .k-low) (t .k-high))
     ∙ passed-by 3 (within 1 32 (checksEach c)) _ (within-make 1 32 (checksEach c) (t .J-low) (t .J-high))
     ∙ passed-by 4 (positionsFit (c .k) 0 (c .positions)) _ (fit-test (c .k) (c .positions) .1 (t .ascending))
+    ∙ passed-by 5 (selfOrthogonal c) [] o
     ∙ nothing-applies
-
--- the table check answers 0 if and only if the limits hold and the test of shared checks does
-pub table-accepted : (c : Code) → tableAnswer c ≡ 0 → Limits c × (selfOrthogonal c ≡ true)
-unfolding tableAnswer tableTests codeTests
-table-accepted c e =
-    let t = taken-first (codeTests c) (test 5 (not (selfOrthogonal c)) ∷ []) refl e in
-    (limits-of c (t .0), taken-by 4 (selfOrthogonal c) [] (t .1) .0)
-
-pub table-accepts : (c : Code) → Limits c → selfOrthogonal c ≡ true → tableAnswer c ≡ 0
-unfolding tableAnswer tableTests codeTests
-table-accepts c l o =
-    passed-first (codeTests c) (test 5 (not (selfOrthogonal c)) ∷ []) refl (of-limits c l) ∙ passed-by 5 (selfOrthogonal c) [] o ∙ nothing-applies
 
 pub table-usable : (c : Code) → tableAnswer c ≡ 0 → Usable c
 table-usable c e =
@@ -176,11 +168,11 @@ page-refused c fits input n = refused-first (tableTests c) _ n
 
 pub page-passed : (c : Code) (fits : Bool) (input : List ℕ) → tableAnswer c ≡ 0
     → firstThatApplies (pageTests c fits input) ≡ firstThatApplies (test 6 (not fits) ∷ test 7 (not (allBelow (c .q) input)) ∷ [])
-unfolding pageTests tableAnswer tableTests codeTests
+unfolding pageTests tableAnswer tableTests sizeTests
 page-passed c fits input e = passed-first (tableTests c) (test 6 (not fits) ∷ test 7 (not (allBelow (c .q) input)) ∷ []) refl e
 
 pub page-taken : (c : Code) (fits : Bool) (input : List ℕ) → firstThatApplies (pageTests c fits input) ≡ 0 → PageFits c fits input
-unfolding pageTests tableAnswer tableTests codeTests
+unfolding pageTests tableAnswer tableTests sizeTests
 page-taken c fits input e =
     let t = taken-first (tableTests c) (test 6 (not fits) ∷ test 7 (not (allBelow (c .q) input)) ∷ []) refl e in
     let a = table-accepted c (t .0) in
@@ -196,7 +188,7 @@ page-taken c fits input e =
 
 -- the data that encode takes are symbols below q, and they are the data symbols of the page that it writes
 pub encoded-symbols : (c : Code) (u sent : List ℕ) → Encodes c u sent → SymbolsBelow (c .q) (dataCount c) u
-unfolding encodeAnswer encodeFits
+unfolding encodeAnswer
 encoded-symbols c u sent e =
     let f = page-taken c _ u (e .0) in
     record { len = eqb-true (length u) (dataCount c) (and-true (eqb (length u) (dataCount c)) _ (f .buffers) .0); low = f .symbols }
@@ -215,7 +207,7 @@ decode-refused c fits page ts n = refused-first (pageTests c fits page) (thresho
 
 pub decode-passed : (c : Code) (fits : Bool) (page thresholds : List ℕ) → firstThatApplies (pageTests c fits page) ≡ 0
     → decodeAnswer c fits page thresholds ≡ firstThatApplies (thresholdTests thresholds)
-unfolding decodeAnswer pageTests tableTests codeTests
+unfolding decodeAnswer pageTests tableTests sizeTests
 decode-passed c fits page ts e = passed-first (pageTests c fits page) (thresholdTests ts) refl e
 
 -- what decode takes, whatever other buffers a form of the call lends
@@ -231,7 +223,7 @@ pub record Taken (c : Code) (page thresholds : List ℕ) (lent : State) : Type 0
 
 pub decode-taken : (c : Code) (others : Bool) (page thresholds : List ℕ) (lent : State) → decodeAnswer c (others && decodeFits c page lent) page thresholds ≡ 0
     → Taken c page thresholds lent
-unfolding decodeAnswer pageTests tableTests codeTests thresholdTests decodeFits stateFits
+unfolding decodeAnswer pageTests tableTests sizeTests thresholdTests
 decode-taken c others page ts lent e =
     let t = taken-first (pageTests c (others && decodeFits c page lent) page) (thresholdTests ts) refl e in
     let f = page-taken c (others && decodeFits c page lent) page (t .0) in

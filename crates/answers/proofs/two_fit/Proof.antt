@@ -1,0 +1,13 @@
+-- `two_fit` is the two comparisons, the second where the first holds.
+use borrow.Author.Tests.{eq-eqb, ne-eqb}
+use Rattle.answers.proofs.two_fit.Statement.{statement}
+use Rattle.answers.proofs.two_fit.Tie as tie
+
+returns : tie.Need-returns
+returns c = simp (ne-eqb _ _ (c .if1 .taken))
+
+returns-2 : tie.Need-returns-2
+returns-2 c = simp (eq-eqb _ _ (c .if1 .left))
+
+pub two-fit-spec : {M : Type 1} → statement M
+two-fit-spec = tie.close (tie.spec returns returns-2)
