@@ -16,7 +16,7 @@ use Rattle.model.specs.Decoder.{State}
 use Rattle.model.specs.Demand.{Encodes}
 use Rattle.model.specs.Limits.{Limits}
 use Rattle.model.specs.Symbols.{choose, Below}
-use Rattle.theory.specs.Codes.{Usable}
+use Rattle.theory.specs.Codes.{Usable, ByteCode}
 use Rattle.theory.specs.Counting.{is-true, eqb-yes, eqb-no}
 use Rattle.theory.specs.Steps.{SymbolsBelow}
 use Rattle.theory.specs.Tables.{fit-test, orthogonal-test}
@@ -184,6 +184,9 @@ page-taken c fits input e =
       symbols = all-below (c .q) (omega (arith, a .0 .q-low)) input (taken-by 6 (allBelow (c .q) input) [] (b .1) .0);
     }
 
+pub page-bytes : (c : Code) (fits : Bool) (input : List ℕ) → PageFits c fits input → ByteCode c
+page-bytes c fits input f = record { q-low = f .usable .q-low; q-high = f .limits .q-high; table = f .limits .table }
+
 -- ---- encode
 
 -- the data that encode takes are symbols below q, and they are the data symbols of the page that it writes
@@ -212,8 +215,8 @@ decode-passed c fits page ts e = passed-first (pageTests c fits page) (threshold
 
 -- what decode takes, whatever other buffers a form of the call lends
 pub record Taken (c : Code) (page thresholds : List ℕ) (lent : State) : Type 0 where
-  pub limits : Limits c
   pub usable : Usable c
+  pub bytes : c .q ≤ 256
   pub whole : SymbolsBelow (c .q) (pageLength c) page
   pub len-result : length (lent .result) ≡ dataCount c
   pub len-syndrome : length (lent .syndrome) ≡ checkCount c
@@ -232,8 +235,8 @@ decode-taken c others page ts lent e =
     let r = and-true (eqb (length (lent .result)) (dataCount c)) _ (b .1) in
     let s = and-true (eqb (length (lent .syndrome)) (checkCount c)) (eqb (length (lent .difference)) (dataCount c)) (r .1) in
     record {
-      limits = f .limits;
       usable = f .usable;
+      bytes = f .limits .q-high;
       whole = record { len = eqb-true (length page) (pageLength c) (b .0); low = f .symbols };
       len-result = eqb-true (length (lent .result)) (dataCount c) (r .0);
       len-syndrome = eqb-true (length (lent .syndrome)) (checkCount c) (s .0);

@@ -21,7 +21,13 @@ pub record Usable (c : Code) : Type 0 where
   pub table : TableLimits c
   pub orthogonal : SelfOrthogonal c
 
--- its checks are an incidence of its data symbols
+-- what functions that write check symbols ask of a code whose symbols are bytes
+pub record ByteCode (c : Code) : Type 0 where
+  pub q-low : 2 ≤ c .q
+  pub q-high : c .q ≤ 256
+  pub table : TableLimits c
+
+-- the checks of a code are an incidence of its data symbols
 pub code-incidence : (c : Code) → Usable c → Incidence (c .q) (dataCount c) (checkCount c) (checksEach c) (checksOf c)
 unfolding shared
 code-incidence c l =
