@@ -1,0 +1,2 @@
+-- The code that parameters and a table stand for.
+pub mod Codes
