@@ -1,9 +1,9 @@
--- `vote::wrapped` meets its contract: the remainder of a number below 2 k.
+-- `checks::wrapped` meets its contract: the remainder of a number below 2 k.
 use mathlib.Core.Path.{sym, _∙_}
 use native.Mathlib.Nat.{mod-eq-of-lt, mod-eq-sub-mod}
 use native.Mathlib.Omega.{arith}
-use Rattle.vote.proofs.wrapped.Statement.{statement}
-use Rattle.vote.proofs.wrapped.Tie as tie
+use Rattle.checks.proofs.wrapped.Statement.{statement}
+use Rattle.checks.proofs.wrapped.Tie as tie
 
 returns : tie.Need-returns
 returns c = sym (mod-eq-of-lt (omega arith))
