@@ -1,12 +1,14 @@
--- The four calls: the number that each returns, and what it leaves in every lent buffer, from any values and any lists.
+-- The calls: the number that each returns, and what it leaves in every lent buffer, from any values and any lists.
 use mathlib.Core.Bool.{Bool, true, not, _&&_}
 use mathlib.Core.List.{List, [], _∷_, _++_}
-use Prim.Native.Nat.{ℕ, zero, suc, _+_}
+use Prim.Native.Nat.{ℕ, suc}
 use lib.Dec.{eqb, ltb, leb}
 use lib.ListN.{length}
 use Rattle.model.specs.Symbols.{choose}
-use Rattle.model.specs.Code.{Code, dataCount, checkCount, pageLength, codeWord, syndrome, selfOrthogonal}
+use Rattle.model.specs.Code.{Code, dataCount, checkCount, pageLength, checksEach, codeWord, syndrome, selfOrthogonal}
 use Rattle.model.specs.Decoder.{State, Counts, decodedState, decodedCounts}
+
+-- ---- tests
 
 -- a test: the number returned when it applies
 pub record Test : Type 0 where
@@ -35,20 +37,16 @@ unfoldable pub allBelow : ℕ → List ℕ → Bool
 allBelow q [] = true
 allBelow q (x ∷ xs) = ltb x q && allBelow q xs
 
--- the limits of the table of quantities: q from 3 to 256, k from 1 to 4,096, J from 1 to 32, positions "strictly ascending, each below k"
-unfoldable pub codeTests : Code → List Test
-codeTests c =
-    test 1 (not (within 3 256 (c .q)))
-    ∷ test 2 (not (within 1 4096 (c .k)))
-    ∷ test 3 (not (within 1 32 (length (c .positions))))
-    ∷ test 4 (not (positionsFit (c .k) 0 (c .positions)))
-    ∷ []
+-- 1 to 3, by the table of quantities: q from 3 to 256, k from 1 to 4,096, J from 1 to 32
+unfoldable pub sizeTests : ℕ → ℕ → ℕ → List Test
+sizeTests q k J = test 1 (not (within 3 256 q)) ∷ test 2 (not (within 1 4096 k)) ∷ test 3 (not (within 1 32 J)) ∷ []
 
--- 1 to 5, which all calls have
+-- 1 to 5, which all calls have. 4: positions "strictly ascending, each below k"; 5: "the table isn't self-orthogonal"
 unfoldable pub tableTests : Code → List Test
-tableTests c = codeTests c ++ (test 5 (not (selfOrthogonal c)) ∷ [])
+tableTests c =
+    sizeTests (c .q) (c .k) (checksEach c) ++ (test 4 (not (positionsFit (c .k) 0 (c .positions))) ∷ test 5 (not (selfOrthogonal c)) ∷ [])
 
--- 6: "a lent buffer is not exactly as long as the call needs"; 7: "a symbol of the input is q or more"
+-- 6: "a lent buffer is not exactly as long as the call needs", where `fits` says whether all of them are; 7: "a symbol of the input is q or more"
 unfoldable pub pageTests : Code → Bool → List ℕ → List Test
 pageTests c fits input = tableTests c ++ (test 6 (not fits) ∷ test 7 (not (allBelow (c .q) input)) ∷ [])
 
@@ -56,62 +54,75 @@ pageTests c fits input = tableTests c ++ (test 6 (not fits) ∷ test 7 (not (all
 unfoldable pub thresholdTests : List ℕ → List Test
 thresholdTests thresholds = test 8 (not (within 1 64 (length thresholds))) ∷ test 9 (not (allBelow 33 thresholds)) ∷ []
 
+-- ---- the lengths that a call needs: "page 2 times k; data, result, S and D k each"
+
+-- encode reads data and lends a page
+abbrev pub encodeFits : Code → ℕ → ℕ → Bool
+encodeFits c dataLen pageLen = eqb dataLen (dataCount c) && eqb pageLen (pageLength c)
+
+-- syndrome reads a page and lends S
+abbrev pub syndromeFits : Code → ℕ → ℕ → Bool
+syndromeFits c pageLen syndromeLen = eqb pageLen (pageLength c) && eqb syndromeLen (checkCount c)
+
+-- the result, S and D
+abbrev pub stateFits : Code → State → Bool
+stateFits c lent =
+    eqb (length (lent .result)) (dataCount c) && (eqb (length (lent .syndrome)) (checkCount c) && eqb (length (lent .difference)) (dataCount c))
+
+-- decode reads a page and lends the result, S and D
+abbrev pub decodeFits : Code → List ℕ → State → Bool
+decodeFits c page lent = eqb (length page) (pageLength c) && stateFits c lent
+
 -- ---- the numbers
 
 unfoldable pub tableAnswer : Code → ℕ
 tableAnswer c = firstThatApplies (tableTests c)
 
--- encode reads data and lends a page of some length
 unfoldable pub encodeAnswer : Code → List ℕ → ℕ → ℕ
-encodeAnswer c u pageLen = firstThatApplies (pageTests c (eqb (length u) (dataCount c) && eqb pageLen (pageLength c)) u)
+encodeAnswer c u pageLen = firstThatApplies (pageTests c (encodeFits c (length u) pageLen) u)
 
--- syndrome reads a page and lends S
 unfoldable pub syndromeAnswer : Code → List ℕ → ℕ → ℕ
-syndromeAnswer c page syndromeLen = firstThatApplies (pageTests c (eqb (length page) (pageLength c) && eqb syndromeLen (checkCount c)) page)
+syndromeAnswer c page syndromeLen = firstThatApplies (pageTests c (syndromeFits c (length page) syndromeLen) page)
 
--- the lengths of the three buffers that decode lends are those that it needs
-unfoldable pub stateFits : Code → ℕ → ℕ → ℕ → Bool
-stateFits c resultLen syndromeLen differenceLen = eqb resultLen (dataCount c) && (eqb syndromeLen (checkCount c) && eqb differenceLen (dataCount c))
+-- decode also reads thresholds
+unfoldable pub decodeAnswer : Code → Bool → List ℕ → List ℕ → ℕ
+decodeAnswer c fits page thresholds = firstThatApplies (pageTests c fits page ++ thresholdTests thresholds)
 
--- decode reads a page and thresholds, and lends the result, S and D
-unfoldable pub decodeAnswer : Code → List ℕ → List ℕ → ℕ → ℕ → ℕ → ℕ
-decodeAnswer c page thresholds resultLen syndromeLen differenceLen =
-    firstThatApplies (pageTests c (eqb (length page) (pageLength c) && stateFits c resultLen syndromeLen differenceLen) page ++ thresholdTests thresholds)
+-- ---- what each call leaves
 
--- ---- what each call leaves: "A refused call alters no lent memory"
-
--- a call's number, and what the buffer that it writes holds afterwards
-pub record Written : Type 0 where
+-- a call's number, and all that it hands back beside it or leaves in lent buffers
+pub record Outcome (A : Type 0) : Type 0 where
   pub number : ℕ
-  pub content : List ℕ
+  pub left : A
 
--- of a call whose number is n: what it writes where n is 0, and what was there where not
-unfoldable pub written : ℕ → List ℕ → List ℕ → Written
-written n new old = record { number = n; content = choose (eqb n 0) new old }
+-- "A refused call alters no lent memory": of a call whose number is n, `done` where n is 0, and what was lent where not
+unfoldable pub outcome : {A : Type 0} → ℕ → A → A → Outcome A
+outcome n done lent = record { number = n; left = choose (eqb n 0) done lent }
 
 -- "Encoding writes the whole page."
-unfoldable pub encodeOutcome : Code → List ℕ → List ℕ → Written
-encodeOutcome c u page = written (encodeAnswer c u (length page)) (codeWord c u) page
+unfoldable pub encodeOutcome : Code → List ℕ → List ℕ → Outcome (List ℕ)
+encodeOutcome c u page = outcome (encodeAnswer c u (length page)) (codeWord c u) page
 
 -- "The syndrome call writes S."
-unfoldable pub syndromeOutcome : Code → List ℕ → List ℕ → Written
-syndromeOutcome c page s = written (syndromeAnswer c page (length s)) (syndrome c page) s
+unfoldable pub syndromeOutcome : Code → List ℕ → List ℕ → Outcome (List ℕ)
+syndromeOutcome c page s = outcome (syndromeAnswer c page (length s)) (syndrome c page) s
 
-pub record Decoded : Type 0 where
-  pub number : ℕ
-  pub counts : Counts
+-- decode's three buffers, and its counts, as numbers or as bytes
+pub record Decoded (A : Type 0) : Type 0 where
   pub state : State
+  pub counts : A
 
 -- "refused, its Rattle form returns four zeros beside the number"
 abbrev pub noCounts : Counts
 noCounts = record { passes = 0; changes = 0; start = 0; end = 0 }
 
--- "Afterwards the lent buffers hold the result, S and D"
-unfoldable pub decodeOutcome : Code → List ℕ → List ℕ → State → Decoded
-decodeOutcome c page thresholds lent =
-    let n = decodeAnswer c page thresholds (length (lent .result)) (length (lent .syndrome)) (length (lent .difference)) in
-    record {
-      number = n;
-      counts = choose (eqb n 0) (decodedCounts c thresholds page) noCounts;
-      state = choose (eqb n 0) (decodedState c thresholds page) lent;
-    }
+-- "Afterwards the lent buffers hold the result, S and D": decode whose lent buffers fit or not
+unfoldable pub decodeOutcomeBy : Code → Bool → List ℕ → List ℕ → State → Outcome (Decoded Counts)
+decodeOutcomeBy c fits page thresholds lent =
+    outcome (decodeAnswer c fits page thresholds)
+    (record { state = decodedState c thresholds page; counts = decodedCounts c thresholds page })
+    (record { state = lent; counts = noCounts })
+
+-- the Rattle form lends no other buffer
+abbrev pub decodeOutcome : Code → List ℕ → List ℕ → State → Outcome (Decoded Counts)
+decodeOutcome c page thresholds lent = decodeOutcomeBy c (decodeFits c page lent) page thresholds lent

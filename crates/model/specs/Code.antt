@@ -4,7 +4,7 @@ use mathlib.Core.Bool.{Bool, true, _&&_, _||_}
 use mathlib.Core.List.{List, [], _∷_, _++_}
 use Prim.Native.Nat.{ℕ, zero, suc, _+_, _%_, _<_, _≤_}
 use lib.Dec.{eqb, leb}
-use lib.ListN.{getD, take, drop}
+use lib.ListN.{length, getD, take, drop}
 use Rattle.model.specs.Symbols.{choose, sub, count, sumOver, tabulate}
 
 -- "q is the alphabet size", "k is the number of data symbols and also the number of check symbols", and the positions of the code table
@@ -17,7 +17,7 @@ pub record Code : Type 0 where
 abbrev pub codeOf : ℕ → ℕ → List ℕ → Code
 codeOf q k positions = record { q = q; k = k; positions = positions }
 
--- The sizes. k stands for a number of symbols nowhere else.
+-- The sizes: the number of data symbols, of check symbols, and of the symbols of a page.
 abbrev pub dataCount : Code → ℕ
 dataCount c = c .k
 
@@ -27,6 +27,10 @@ checkCount c = c .k
 -- "A page (code word) has n = 2 times k symbols"
 abbrev pub pageLength : Code → ℕ
 pageLength c = dataCount c + checkCount c
+
+-- "J is the number of positions in the code table": so many checks has each data symbol
+abbrev pub checksEach : Code → ℕ
+checksEach c = length (c .positions)
 
 -- the (j + p) mod k over a list of positions p
 unfoldable pub checksBy : ℕ → List ℕ → ℕ → List ℕ

@@ -1,13 +1,15 @@
--- Demand 3, as the claims that decode's contract makes of its run.
+-- Demand 3: the falling distance of any list of visits from an opened page, the recovery of the data sent, and both of a decode.
 use mathlib.Core.Path.{_≡_}
 use mathlib.Core.Bool.{true, false}
 use mathlib.Core.List.{List, [], _∷_}
 use Prim.Native.Nat.{ℕ, suc, _+_, _<_, _≤_}
-use lib.ListN.{length, getD}
+use lib.ListN.{getD}
 use Rattle.model.specs.Symbols.{choose, distance}
-use Rattle.model.specs.Code.{Code, pageLength, checksOf, codeWord}
-use Rattle.model.specs.Decoder.{State, Visit, changes, visit, opened, run, distanceTo, decodedState}
+use Rattle.model.specs.Code.{Code, pageLength, checksEach, checksOf, codeWord, dataOf}
+use Rattle.model.specs.Decoder.{State, Visit, Counts, changes, visit, after, opened, run, distanceTo}
 use Rattle.model.specs.Calls.{encodeAnswer}
+
+-- ---- the first half
 
 -- one visit, from the state that it gets, and a distance d: "each change lowers the distance .. by more than its pass's threshold, and every other visit leaves it"
 pub record VisitFalls (q : ℕ) (checks : ℕ → List ℕ) (d : State → ℕ) (v : Visit) (st : State) : Type 0 where
@@ -24,17 +26,34 @@ unfoldable pub spent : ℕ → (ℕ → List ℕ) → List Visit → State → �
 spent q checks [] st = 0
 spent q checks (v ∷ vs) st = choose (changes checks v st) (suc (v .threshold)) 0 + spent q checks vs (visit q checks v st)
 
--- the first half of demand 3, of decoding a page: the run falls, and
+-- the visits of a list, from an opened page, fall, and
 -- "the distance when the run ends plus, for each change in it, its pass's T plus 1, is at most the distance at the start"
-pub record RunFalls (c : Code) (thresholds page : List ℕ) : Type 0 where
-  pub falls : Falls (c .q) (checksOf c) (distanceTo c page) (run c thresholds page) (opened c page)
-  pub total : distanceTo c page (decodedState c thresholds page) + spent (c .q) (checksOf c) (run c thresholds page) (opened c page) ≤ distanceTo c page (opened c page)
+pub record RunFalls (c : Code) (page : List ℕ) (visits : List Visit) : Type 0 where
+  pub falls : Falls (c .q) (checksOf c) (distanceTo c page) visits (opened c page)
+  pub total : distanceTo c page (after (c .q) (checksOf c) visits (opened c page)) + spent (c .q) (checksOf c) visits (opened c page)
+      ≤ distanceTo c page (opened c page)
+
+-- of a decode: its run falls, and the total holds of the distances that it hands back
+pub record DecodeFalls (c : Code) (thresholds page : List ℕ) (counts : Counts) : Type 0 where
+  pub falls : RunFalls c page (run c thresholds page)
+  pub total : counts .end + spent (c .q) (checksOf c) (run c thresholds page) (opened c page) ≤ counts .start
+
+-- ---- the second half
 
 -- encode takes the data u and writes the page `sent`
 abbrev pub Encodes : Code → List ℕ → List ℕ → Type 0
 Encodes c u sent = (encodeAnswer c u (pageLength c) ≡ 0) × (sent ≡ codeWord c u)
 
--- the second half, of the result that decoding a page hands back: where the page differs in at most t places from a page that encode writes,
--- and "2t plus the first pass's threshold is at most J", the result is the data sent
-abbrev pub Recovers : Code → List ℕ → List ℕ → List ℕ → Type 0
-Recovers c thresholds page result = (u sent : List ℕ) (t : ℕ) → Encodes c u sent → distance sent page ≤ t → t + t + getD thresholds 0 0 ≤ length (c .positions) → result ≡ u
+-- t replaced symbols and a threshold: "2t plus the first pass's threshold is at most J"
+abbrev pub WithinBound : Code → ℕ → ℕ → Type 0
+WithinBound c t threshold = t + t + threshold ≤ checksEach c
+
+-- of a result that passes with this threshold among them hand back: where the page "differs in at most t of its n places from a page that encode
+-- writes", within the bound, the result is "the data symbols of the page as encode wrote it"
+abbrev pub Recovers : Code → ℕ → List ℕ → List ℕ → Type 0
+Recovers c threshold page result =
+    (u sent : List ℕ) (t : ℕ) → Encodes c u sent → distance sent page ≤ t → WithinBound c t threshold → result ≡ dataOf c sent
+
+-- of a decode: by "the first pass's threshold"
+abbrev pub DecodeRecovers : Code → List ℕ → List ℕ → List ℕ → Type 0
+DecodeRecovers c thresholds page result = Recovers c (getD thresholds 0 0) page result

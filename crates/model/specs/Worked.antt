@@ -1,63 +1,72 @@
--- The proved set: the worked pages 1 to 10 of document 01 as one table, and one statement that the definitions give what its rows say.
--- Below them stand case 14 and a page of three checks: no page of 1 to 10 tells a vote by absolute majority, or one taken
--- from the syndrome as it was at the start of the pass, from the steps of the document.
-use mathlib.Core.Path.{_≡_, refl, ap, _∙_}
+-- The proved set: the worked pages of document 01 that are marked ●, as one table, and one statement that the definitions give what its rows say.
+-- Below it a second table pins misreadings that no marked page tells apart, and three lines hold demand 3 to its numbers.
+use mathlib.Core.Path.{_≡_, refl, ap, subst, _∙_}
 use mathlib.Core.Bool.{Bool, true, false}
 use mathlib.Core.List.{List, [], _∷_, _++_, map}
-use Prim.Native.Nat.{ℕ, _+_, _%_, _<_}
+use Prim.Native.Nat.{ℕ, _+_, _%_, _<_, _≤_}
 use native.Mathlib.Nat.{mod-eq-of-lt}
 use native.Mathlib.Omega.{arith}
+use lib.Dec.{T}
+use lib.ListN.{length}
 use Rattle.model.specs.Symbols.{sub, same, differ, count, distance, sumOver, tabulate, symbolsAt, subtractAt}
-use Rattle.model.specs.Code.{Code, codeOf, checksBy, checkSumBy, checkSymbol, checkSymbols, codeWord, syndrome, shared, everyBelow, selfOrthogonal, differencesFrom, differencesBy, differences, allDifferent}
+use Rattle.model.specs.Code.{Code, codeOf, dataCount, checkCount, pageLength, checksOf, checksBy, checkSumBy, checkSymbol, checkSymbols, codeWord, syndrome, shared, everyBelow, selfOrthogonal, differencesFrom, differencesBy, differences, allDifferent}
 use Rattle.model.specs.Vote.{firstOf, leader, leadCount, otherCount, nextCount, Votes, votes}
-use Rattle.model.specs.Decoder.{State, Counts, estimates, isChange, change, changes, visit, after, changeCount, pass, passes, thresholdsRun, opened, passesOf, run, distanceTo, decodedState, decodedCounts}
-use Rattle.model.specs.Calls.{firstThatApplies, within, positionsFit, allBelow, codeTests, tableTests, pageTests, thresholdTests, tableAnswer, encodeAnswer, stateFits, decodeAnswer, Written, written, encodeOutcome, Decoded, decodeOutcome}
+use Rattle.model.specs.Decoder.{State, Visit, Counts, estimates, isChange, change, changes, visit, after, changeCount, pass, passes, thresholdsRun, opened, passesOf, run, distanceTo, decodedState, decodedCounts}
+use Rattle.model.specs.Calls.{firstThatApplies, within, positionsFit, allBelow, sizeTests, tableTests, pageTests, thresholdTests, tableAnswer, encodeAnswer, decodeAnswer, Outcome, outcome, encodeOutcome, Decoded, decodeOutcome, decodeOutcomeBy}
+use Rattle.model.specs.Demand.{VisitFalls, WithinBound}
 
 -- A row: a call's inputs, and what it must give.
 data Row : Type 0 where
   -- the table check's number, and whether the differences of positions are all different
   table : (c : Code) (answer : ℕ) (different : Bool) → Row
-  -- encode's number and page, from a page of zeros
-  encoded : (c : Code) (u : List ℕ) (given : Written) → Row
-  -- decode's number, counts, result, S and D, from buffers of zeros
-  decoded : (c : Code) (thresholds page : List ℕ) (given : Decoded) → Row
+  -- encode's number and page
+  encoded : (c : Code) (u : List ℕ) (given : Outcome (List ℕ)) → Row
+  -- decode's number, counts, result, S and D
+  decoded : (c : Code) (thresholds page : List ℕ) (given : Outcome (Decoded Counts)) → Row
   -- the vote over a list of estimates, and whether it is a change at a threshold
   voted : (es : List ℕ) (threshold : ℕ) (given : Votes) (changed : Bool) → Row
 
 zeros : ℕ → List ℕ
 zeros n = tabulate n (λ i. 0)
 
+-- what a lent buffer holds before a call
+lent : ℕ → List ℕ
+lent n = tabulate n (λ i. 165)
+
 -- the row with what the definitions give for its inputs
 computed : Row → Row
-unfolding firstThatApplies within positionsFit allBelow codeTests tableTests pageTests thresholdTests tableAnswer encodeAnswer stateFits decodeAnswer written encodeOutcome decodeOutcome
+unfolding firstThatApplies within positionsFit allBelow sizeTests tableTests pageTests thresholdTests tableAnswer encodeAnswer decodeAnswer outcome encodeOutcome decodeOutcomeBy
     checksBy checkSumBy checkSymbol checkSymbols codeWord syndrome shared everyBelow selfOrthogonal differencesFrom differencesBy allDifferent
     firstOf leader leadCount otherCount nextCount estimates isChange change changes visit after changeCount pass passes thresholdsRun opened passesOf run distanceTo decodedState decodedCounts
-    sub same differ count distance sumOver tabulate symbolsAt subtractAt zeros
+    sub same differ count distance sumOver tabulate symbolsAt subtractAt lent
 computed (table c a d) = table c (tableAnswer c) (allDifferent (differences c))
-computed (encoded c u g) = encoded c u (encodeOutcome c u (zeros (c .k + c .k)))
+computed (encoded c u g) = encoded c u (encodeOutcome c u (lent (pageLength c)))
 computed (decoded c ts page g) =
-    decoded c ts page (decodeOutcome c page ts (record { result = zeros (c .k); syndrome = zeros (c .k); difference = zeros (c .k) }))
+    decoded c ts page (decodeOutcome c page ts (record { result = lent (dataCount c); syndrome = lent (checkCount c); difference = lent (dataCount c) }))
 computed (voted es t g b) = voted es t (votes es) (isChange t es)
 
 -- "Code A is k = 13 with positions 0, 1, 4, 6."
 codeA : Code
 codeA = codeOf 256 13 (0 ∷ 1 ∷ 4 ∷ 6 ∷ [])
 
-accepted : List ℕ → Written
-accepted page = record { number = 0; content = page }
+accepted : List ℕ → Outcome (List ℕ)
+accepted page = record { number = 0; left = page }
 
-found : List ℕ → List ℕ → List ℕ → ℕ → ℕ → ℕ → ℕ → Decoded
+found : List ℕ → List ℕ → List ℕ → ℕ → ℕ → ℕ → ℕ → Outcome (Decoded Counts)
 found r s d passes changes start end = record {
   number = 0;
-  counts = record { passes = passes; changes = changes; start = start; end = end };
-  state = record { result = r; syndrome = s; difference = d };
+  left = record {
+    state = record { result = r; syndrome = s; difference = d };
+    counts = record { passes = passes; changes = changes; start = start; end = end };
+  };
 }
 
 vote : ℕ → ℕ → ℕ → ℕ → Votes
 vote h m0 m1 z = record { leader = h; lead = m0; next = m1; zeros = z }
 
+-- the cases marked ●
 rows : List Row
-unfolding codeA accepted found vote zeros tabulate
+unfolding codeA accepted found zeros tabulate
 rows =
     -- 1
     table (codeOf 256 13 (0 ∷ 1 ∷ 4 ∷ 6 ∷ [])) 0 true
@@ -84,14 +93,6 @@ rows =
     -- 10
     ∷ decoded codeA (0 ∷ []) (zeros 13 ++ (251 ∷ 251 ∷ 0 ∷ 0 ∷ 251 ∷ zeros 8))
     (found (251 ∷ zeros 12) (zeros 6 ++ (251 ∷ zeros 6)) (251 ∷ zeros 12) 1 1 3 2)
-    -- 14
-    ∷ voted (2 ∷ 2 ∷ 1 ∷ 1 ∷ 0 ∷ []) 0 (vote 1 2 2 1) false
-    ∷ voted (7 ∷ 7 ∷ 0 ∷ 9 ∷ 1 ∷ []) 0 (vote 7 2 1 1) true
-    ∷ voted (7 ∷ 7 ∷ 0 ∷ 9 ∷ 1 ∷ []) 1 (vote 7 2 1 1) false
-    -- k = 3, positions 0, 1, all three received checks 251, so s is 5 everywhere: symbol 0 has estimates 0, 5, 5 and changes,
-    -- which leaves s(0) and s(1) 0, so that symbols 1 and 2 have estimates 0, 0, 5 and stay
-    ∷ decoded (codeOf 256 3 (0 ∷ 1 ∷ [])) (0 ∷ []) (zeros 3 ++ (251 ∷ 251 ∷ 251 ∷ []))
-    (found (251 ∷ zeros 2) (0 ∷ 0 ∷ 5 ∷ []) (251 ∷ zeros 2) 1 1 3 2)
     ∷ []
 
 worked : map computed rows ≡ rows
@@ -102,3 +103,42 @@ worked = refl
 twice : (q x : ℕ) → x < q → codeWord (codeOf q 1 (0 ∷ [])) (x ∷ []) ≡ x ∷ x ∷ []
 unfolding codeWord checkSymbols checkSymbol checkSumBy sumOver tabulate sub
 twice q x h = ap (λ (v : ℕ). x ∷ v ∷ []) (ap (λ (n : ℕ). n % q) (let e : x + 0 ≡ x = omega arith in e) ∙ mod-eq-of-lt h)
+
+-- Rows that pin misreadings: case 14 tells a vote by absolute majority from the steps and pins the tie; a page of three checks tells votes
+-- taken from the syndrome as it was at the start of the pass.
+misreadings : List Row
+unfolding found vote zeros tabulate
+misreadings =
+    -- 14
+    voted (2 ∷ 2 ∷ 1 ∷ 1 ∷ 0 ∷ []) 0 (vote 1 2 2 1) false
+    ∷ voted (7 ∷ 7 ∷ 0 ∷ 9 ∷ 1 ∷ []) 0 (vote 7 2 1 1) true
+    ∷ voted (7 ∷ 7 ∷ 0 ∷ 9 ∷ 1 ∷ []) 1 (vote 7 2 1 1) false
+    -- k = 3, positions 0, 1, all three received checks 251, so s is 5 everywhere: symbol 0 has estimates 0, 5, 5 and changes,
+    -- which leaves s(0) and s(1) 0, so that symbols 1 and 2 have estimates 0, 0, 5 and stay
+    ∷ decoded (codeOf 256 3 (0 ∷ 1 ∷ [])) (0 ∷ []) (zeros 3 ++ (251 ∷ 251 ∷ 251 ∷ []))
+    (found (251 ∷ zeros 2) (0 ∷ 0 ∷ 5 ∷ []) (251 ∷ zeros 2) 1 1 3 2)
+    ∷ []
+
+told-apart : map computed misreadings ≡ misreadings
+unfolding computed misreadings
+told-apart = refl
+
+-- ---- the numbers of demand 3
+
+-- the page of case 6, and its first visit, at threshold 2: a change that lowers the distance from 4 to 1, by 3 and no more
+pageSix : List ℕ
+pageSix = 7 ∷ zeros 25
+
+falls-by-three : VisitFalls 256 (checksOf codeA) (distanceTo codeA pageSix) (record { symbol = 0; threshold = 2 }) (opened codeA pageSix)
+unfolding codeA pageSix zeros checksBy checkSumBy checkSymbol checkSymbols codeWord syndrome firstOf leader leadCount otherCount nextCount
+    estimates isChange change changes visit opened distanceTo sub same differ count distance sumOver tabulate symbolsAt subtractAt
+falls-by-three = record { lowered = (λ e. let f : 1 + 2 < 4 = omega arith in f); left = (λ e. absurd (subst T e tt)) }
+
+-- code A has J = 4: two replaced symbols are within the bound at threshold 0, and not at threshold 1
+bound-met : WithinBound codeA 2 0
+unfolding codeA
+bound-met = let e : 4 ≤ 4 = omega arith in e
+
+bound-passed : WithinBound codeA 2 1 → ⊥
+unfolding codeA
+bound-passed w = let e : 5 ≤ 4 = w in omega arith

@@ -70,10 +70,9 @@ module _ (q : ℕ) (pos : zero < q) (u : List ℕ) where
       ∙ by-eq q {x = getD s i 0 + x + rest i} {y = getD s i 0 + (x + rest i)} (omega arith))
 
 -- the page that holds v at its front, with cs written from the end of v on
-pub front-written : (u v rest cs ds : List ℕ) → v ≡ u → cs ≡ ds
-    → putMid (length u) (length (v ++ rest) - length u) (v ++ rest) cs ≡ u ++ ds
-front-written u v rest cs ds e f =
-    rw (e, f, take-at u rest (length u) refl, post-is (length u) (length (u ++ rest)) (u ++ rest) (simp length-append (omega arith)), drop-length (u ++ rest), append-nil ds) refl
+pub front-written : (k : ℕ) (u v rest cs ds : List ℕ) → length u ≡ k → v ≡ u → cs ≡ ds → putMid k (length (v ++ rest) - k) (v ++ rest) cs ≡ u ++ ds
+front-written k u v rest cs ds l e f =
+    rw (e, f, take-at u rest k l, post-is k (length (u ++ rest)) (u ++ rest) (simp length-append (omega arith)), drop-length (u ++ rest), append-nil ds) refl
 
 -- from the row of the first position on, the rows make the check symbols
 module _ (q : ℕ) (pos : zero < q) (u : List ℕ) (low : Below q u) where
@@ -81,12 +80,15 @@ module _ (q : ℕ) (pos : zero < q) (u : List ℕ) (low : Below q u) where
   unfolding row
   row-sums p = record { sized = row-length p u; low = below-tabulate q pos (length u) _ (λ i. low (sub (length u) i p)) }
 
-  pub checks-written : (ps : List ℕ) → 0 < length ps → addRows q (drop 1 ps) u (row (getD ps 0 0) u) ≡ checkSymbols (codeOf q (length u) ps) u
+  all-written : (ps : List ℕ) → 0 < length ps → addRows q (drop 1 ps) u (row (getD ps 0 0) u) ≡ checkSymbols (codeOf q (length u) ps) u
   unfolding checkSymbols checkSymbol checkSumBy sumOver
-  checks-written [] h = absurd (omega arith)
-  checks-written (p ∷ ps) h =
+  all-written [] h = absurd (omega arith)
+  all-written (p ∷ ps) h =
       rows-are q pos u ps (row p u) (row-sums p)
       ∙ tabulate-ext (length u) _ _ (λ i l. ap (λ (x : ℕ). (x + sumOver ps (λ r. getD u (sub (length u) i r) 0)) % q) (row-at p u i l))
+
+  pub checks-written : (k : ℕ) → length u ≡ k → (ps : List ℕ) → 0 < length ps → addRows q (drop 1 ps) u (row (getD ps 0 0) u) ≡ checkSymbols (codeOf q k ps) u
+  checks-written k e ps h = all-written ps h ∙ ap (λ (n : ℕ). checkSymbols (codeOf q n ps) u) e
 
   -- and from that row less c on, the check symbols less c
   less-turned : (a b x : ℕ) → (sub q a b + x) % q ≡ sub q ((a + x) % q) b

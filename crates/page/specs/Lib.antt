@@ -1,3 +1,3 @@
--- Laws that the proofs of this crate cite.
+-- What the contracts of the page calls cite, and their laws.
 pub mod Checks
-pub mod Outcomes
+pub mod Calls

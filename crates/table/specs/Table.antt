@@ -1,5 +1,6 @@
 -- Laws of the table check's tests.
 use mathlib.Core.Path.{_≡_, refl, _∙_}
+use mathlib.Core.Logic.{_≢_}
 use mathlib.Core.Bool.{Bool, true, false, not, _&&_}
 use mathlib.Core.List.{List, [], _∷_}
 use Prim.Native.Nat.{ℕ, zero, suc, _+_, _≤_, _<_}
@@ -8,34 +9,27 @@ use native.Mathlib.Omega.{arith}
 use lib.Dec.{ltb, leb}
 use lib.ListN.{length, getD, drop, drop-of-length-le}
 use lib.Seq.{drop-cons}
-use Rattle.model.specs.Calls.{test, firstThatApplies, positionsFit, codeTests, tableTests, tableAnswer}
-use Rattle.model.specs.Code.{Code, codeOf, selfOrthogonal, differencesBy, differences, allDifferent}
-use Rattle.model.specs.Symbols.{choose}
-use Rattle.theory.specs.Answers.{within-make}
+use Rattle.model.specs.Calls.{test, firstThatApplies, within, positionsFit, sizeTests, tableTests, tableAnswer}
+use Rattle.model.specs.Code.{Code, codeOf, checksEach, selfOrthogonal, differencesBy, differences, allDifferent}
+use Rattle.theory.specs.Answers.{refused-first, passed-first, taken-by, within-facts}
 use Rattle.theory.specs.Counting.{All}
-use Rattle.theory.specs.Tables.{fit-cons, orthogonal-test, orthogonal-differences}
+use Rattle.theory.specs.Tables.{fit-cons, fit-test, orthogonal-test, orthogonal-differences}
 use Rattle.table.specs.Marks.{same-truth}
 
--- q, k and J are within their limits
-pub record Sizes (c : Code) : Type 0 where
-  pub q-low : 3 ≤ c .q
-  pub q-high : c .q ≤ 256
-  pub k-low : 1 ≤ c .k
-  pub k-high : c .k ≤ 4096
-  pub J-low : 1 ≤ length (c .positions)
-  pub J-high : length (c .positions) ≤ 32
+-- within the limits of the numbers, tests 4 and 5 decide
+pub sized-answer : (c : Code) → firstThatApplies (sizeTests (c .q) (c .k) (checksEach c)) ≡ 0
+    → tableAnswer c ≡ firstThatApplies (test 4 (not (positionsFit (c .k) 0 (c .positions))) ∷ test 5 (not (selfOrthogonal c)) ∷ [])
+unfolding tableAnswer tableTests sizeTests
+sized-answer c e = passed-first (sizeTests (c .q) (c .k) (checksEach c)) _ refl e
 
--- then the positions decide
-pub sized-answer : (c : Code) → Sizes c → tableAnswer c ≡ choose (positionsFit (c .k) 0 (c .positions)) (choose (selfOrthogonal c) 0 5) 4
-unfolding tableAnswer tableTests codeTests firstThatApplies
-sized-answer c s =
-    simp (within-make 3 256 (c .q) (s .q-low) (s .q-high), within-make 1 4096 (c .k) (s .k-low) (s .k-high), within-make 1 32 (length (c .positions)) (s .J-low) (s .J-high))
-    (by-cases (positionsFit (c .k) 0 (c .positions)) (selfOrthogonal c))
-  where
-    by-cases : (a b : Bool) → _≡_ {A = ℕ} (choose (not a) 4 (choose (not b) 5 0)) (choose a (choose b 0 5) 4)
-    by-cases true true = refl
-    by-cases true false = refl
-    by-cases false b = refl
+pub unsized-answer : (c : Code) → firstThatApplies (sizeTests (c .q) (c .k) (checksEach c)) ≢ 0 → tableAnswer c ≡ firstThatApplies (sizeTests (c .q) (c .k) (checksEach c))
+unfolding tableAnswer tableTests
+unsized-answer c n = refused-first (sizeTests (c .q) (c .k) (checksEach c)) _ n
+
+-- the limits of k, as the numbers' tests leave it
+pub sized-k : (q k J : ℕ) → firstThatApplies (sizeTests q k J) ≡ 0 → (1 ≤ k) × (k ≤ 4096)
+unfolding sizeTests
+sized-k q k J e = within-facts 1 4096 k (taken-by 1 (within 1 4096 k) _ (taken-by 0 (within 3 256 q) _ e .1) .0)
 
 -- ---- the positions, the loop's way
 
@@ -82,5 +76,5 @@ pub orthogonal-told : (k : ℕ) (ps : List ℕ) → zero < k → positionsFit k 
 orthogonal-told k ps pos e r d q =
     let c = codeOf q k ps in
     let test = orthogonal-test c in
-    let differ = orthogonal-differences c pos e in
+    let differ = orthogonal-differences c pos (fit-test k ps .0 e) in
     d ∙ same-truth (allDifferent (differences c)) (selfOrthogonal c) (λ t. test .1 (differ .1 t)) (λ t. differ .0 (test .0 t))

@@ -1,22 +1,24 @@
 // The table check: the limits of q, k and J, the positions, and self-orthogonality by marking the differences of positions.
+use params::Params;
 ghost use mathlib.Core.Path.{_≡_};
 ghost use mathlib.Core.Bool.{true};
 ghost use Prim.Native.Nat.{ℕ, _+_, _<_, _≤_};
 ghost use lib.ListN.{length, getD};
 ghost use Rattle.model.specs.Symbols.{same};
 ghost use Rattle.model.specs.Code.{codeOf, selfOrthogonal, differencesBy, allDifferent};
-ghost use Rattle.model.specs.Calls.{positionsFit, tableAnswer};
+ghost use Rattle.model.specs.Calls.{firstThatApplies, within, positionsFit, sizeTests, tableAnswer};
+ghost use Rattle.params.specs.Codes.{codeBy};
 ghost use Rattle.table.specs.Marks.{marksOf, mark};
 ghost use Rattle.table.specs.Folded.{fold, foldedFrom};
 
 // Each position is below k and above the one before it.
-fn positions_fit(k: u32, positions: &[u16]) -> bool
+fn positions_fit(k: usize, positions: &[u16]) -> bool
     ensures { λ r. ⌜ r ≡ positionsFit k 0 (now (positions .entry)) ⌝ }
 {
-    let mut least: u32 = 0;
+    let mut least: usize = 0;
     let mut i = 0;
     while i < positions.len() {
-        let p = positions[i] as u32;
+        let p = positions[i] as usize;
         if k <= p {
             return false;
         }
@@ -103,34 +105,54 @@ fn self_orthogonal(k: usize, positions: &[u16]) -> bool
     differences_differ(k, positions, &mut seen)
 }
 
-// The number of the first test that applies, or 0.
-pub fn check_table(q: u32, k: u32, positions: &[u16]) -> u32
-    ensures { λ r. ⌜ r ≡ tableAnswer (codeOf q k (now (positions .entry))) ⌝ }
+// Whether x is from low to high.
+pub fn within(low: usize, high: usize, x: usize) -> bool
+    ensures { λ r. ⌜ r ≡ within low high x ⌝ }
 {
-    if q < 3 {
+    if x < low {
+        return false;
+    }
+    x <= high
+}
+
+// Tests 1 to 3: q, k and the number of positions.
+fn sizes_answer(q: usize, k: usize, j: usize) -> u32
+    ensures { λ r. ⌜ r ≡ firstThatApplies (sizeTests q k j) ⌝ }
+{
+    if !within(3, 256, q) {
         return 1;
     }
-    if 256 < q {
-        return 1;
-    }
-    if k < 1 {
+    if !within(1, 4096, k) {
         return 2;
     }
-    if 4096 < k {
-        return 2;
-    }
-    let j = positions.len();
-    if j < 1 {
+    if !within(1, 32, j) {
         return 3;
     }
-    if 32 < j {
-        return 3;
+    0
+}
+
+// Tests 1 to 5, which all calls have: the number of the first that applies, or 0.
+pub fn table_answer(code: Params, positions: &[u16]) -> u32
+    ensures { λ r. ⌜ r ≡ tableAnswer (codeBy code (now (positions .entry))) ⌝ }
+{
+    let k = code.k;
+    let number = sizes_answer(code.q as usize, k, positions.len());
+    if number != 0 {
+        return number;
     }
     if !positions_fit(k, positions) {
         return 4;
     }
-    if !self_orthogonal(k as usize, positions) {
+    if !self_orthogonal(k, positions) {
         return 5;
     }
     0
+}
+
+// Checks a code table.
+pub fn check_table(q: u32, k: u32, positions: &[u16]) -> u32
+    ensures { λ r. ⌜ r ≡ tableAnswer (codeOf q k (now (positions .entry))) ⌝ }
+{
+    let code = Params { q, k: k as usize };
+    table_answer(code, positions)
 }

@@ -1,20 +1,25 @@
--- What a returned number of 0 says of the inputs.
+-- Lists of tests, and what a returned number of 0 says of the inputs.
 use mathlib.Core.Path.{_≡_, refl, ap, sym, _∙_, subst}
 use mathlib.Core.Logic.{_≢_}
 use mathlib.Core.Bool.{Bool, true, false, not, _&&_}
 use mathlib.Core.List.{List, [], _∷_, _++_}
 use Prim.Native.Nat.{ℕ, zero, suc, _≤_, _<_}
-use native.Mathlib.Nat.{not-suc-le-zero, le-of-suc-le-suc}
+use native.Mathlib.Decide.{ℕ-discrete}
 use native.Mathlib.Omega.{arith}
 use lib.Dec.{T, eqb, ltb, leb, eqb→eq, ltb→lt, leb→le, le→leb}
-use lib.ListN.{length, getD}
+use lib.ListN.{length, take}
+use lib.Seq.{take-at}
 use borrow.Author.Tests.{lt-leb}
-use Rattle.model.specs.Calls.{Test, test, firstThatApplies, within, positionsFit, allBelow, codeTests, tableTests, pageTests, thresholdTests, tableAnswer, stateFits, decodeAnswer}
-use Rattle.model.specs.Code.{Code, dataCount, pageLength, selfOrthogonal}
+use Rattle.model.specs.Calls.{Test, test, firstThatApplies, within, positionsFit, allBelow, sizeTests, tableTests, pageTests, thresholdTests, encodeFits, stateFits, decodeFits, tableAnswer, encodeAnswer, decodeAnswer}
+use Rattle.model.specs.Code.{Code, dataCount, checkCount, pageLength, checksEach, checkSymbols, codeWord, dataOf, selfOrthogonal}
+use Rattle.model.specs.Decoder.{State}
+use Rattle.model.specs.Demand.{Encodes}
+use Rattle.model.specs.Limits.{Limits}
 use Rattle.model.specs.Symbols.{choose, Below}
-use Rattle.theory.specs.Counting.{is-true, eqb-yes, eqb-no, All}
+use Rattle.theory.specs.Codes.{Usable, ByteCode}
+use Rattle.theory.specs.Counting.{is-true, eqb-yes, eqb-no}
 use Rattle.theory.specs.Steps.{SymbolsBelow}
-use Rattle.theory.specs.Tables.{rising-facts}
+use Rattle.theory.specs.Tables.{fit-test, orthogonal-test}
 
 pub and-true : (a b : Bool) → (a && b) ≡ true → (a ≡ true) × (b ≡ true)
 and-true true b e = (refl, e)
@@ -24,42 +29,60 @@ pub not-false : (b : Bool) → not b ≡ false → b ≡ true
 not-false true e = refl
 not-false false e = absurd (subst T e tt)
 
+pub eqb-true : (a b : ℕ) → eqb a b ≡ true → a ≡ b
+eqb-true a b e = eqb→eq a b (subst T (sym e) tt)
+
 -- ---- lists of tests
 
-abbrev NoneApplies : List Test → Type 0
-NoneApplies [] = Unit {0}
-NoneApplies (t ∷ ts) = (t .applies ≡ false) × NoneApplies ts
-
 -- no test's number is 0
-abbrev numbered : List Test → Bool
+abbrev pub numbered : List Test → Bool
 numbered [] = true
 numbered (t ∷ ts) = ltb 0 (t .number) && numbered ts
 
-none-answer : (ts : List Test) → NoneApplies ts → firstThatApplies ts ≡ 0
+-- a test that something fits applies where it does not
+pub refused-by : (n : ℕ) (fits : Bool) (ts : List Test) → fits ≡ false → firstThatApplies (test n (not fits) ∷ ts) ≡ n
 unfolding firstThatApplies
-none-answer [] n = refl
-none-answer (t ∷ ts) n = rw (n .0) (none-answer ts (n .1))
+refused-by n fits ts e = rw e refl
 
-answer-none : (ts : List Test) → numbered ts ≡ true → firstThatApplies ts ≡ 0 → NoneApplies ts
+pub passed-by : (n : ℕ) (fits : Bool) (ts : List Test) → fits ≡ true → firstThatApplies (test n (not fits) ∷ ts) ≡ firstThatApplies ts
 unfolding firstThatApplies
-answer-none [] p e = tt
-answer-none (t ∷ ts) p e = go (t .applies) refl e (λ z. answer-none ts (and-true (ltb 0 (t .number)) (numbered ts) p .1) z)
-  where
-    go : (b : Bool) → t .applies ≡ b → choose b (t .number) (firstThatApplies ts) ≡ 0 → (firstThatApplies ts ≡ 0 → NoneApplies ts) → NoneApplies (t ∷ ts)
-    go true f z r = absurd (omega (arith, ltb→lt 0 (t .number) (subst T (sym (and-true (ltb 0 (t .number)) (numbered ts) p .0)) tt), z))
-    go false f z r = (f, r z)
+passed-by n fits ts e = rw e refl
 
--- the tests of two lists one after the other
-answer-append : (ts us : List Test) → numbered ts ≡ true → firstThatApplies (ts ++ us) ≡ choose (eqb (firstThatApplies ts) 0) (firstThatApplies us) (firstThatApplies ts)
+pub taken-by : (n : ℕ) (fits : Bool) (ts : List Test) → firstThatApplies (test (suc n) (not fits) ∷ ts) ≡ 0 → (fits ≡ true) × (firstThatApplies ts ≡ 0)
 unfolding firstThatApplies
-answer-append [] us p = refl
-answer-append (t ∷ ts) us p = go (t .applies) (answer-append ts us (and-true (ltb 0 (t .number)) (numbered ts) p .1))
+taken-by n true ts e = (refl, e)
+taken-by n false ts e = absurd (omega (arith, e))
+
+pub nothing-applies : firstThatApplies [] ≡ 0
+unfolding firstThatApplies
+nothing-applies = refl
+
+-- two lists, one after the other
+pub refused-first : (ts us : List Test) → firstThatApplies ts ≢ 0 → firstThatApplies (ts ++ us) ≡ firstThatApplies ts
+unfolding firstThatApplies
+refused-first [] us n = absurd (n refl)
+refused-first (t ∷ ts) us n = go (t .applies) n (λ m. refused-first ts us m)
   where
-    go : (b : Bool) → firstThatApplies (ts ++ us) ≡ choose (eqb (firstThatApplies ts) 0) (firstThatApplies us) (firstThatApplies ts)
-        → choose b (t .number) (firstThatApplies (ts ++ us))
-        ≡ choose (eqb (choose b (t .number) (firstThatApplies ts)) 0) (firstThatApplies us) (choose b (t .number) (firstThatApplies ts))
-    go true ih = rw (eqb-no (t .number) 0 (λ e. absurd (omega (arith, ltb→lt 0 (t .number) (subst T (sym (and-true (ltb 0 (t .number)) (numbered ts) p .0)) tt), e)))) refl
-    go false ih = ih
+    go : (b : Bool) → choose b (t .number) (firstThatApplies ts) ≢ 0 → (firstThatApplies ts ≢ 0 → firstThatApplies (ts ++ us) ≡ firstThatApplies ts)
+        → choose b (t .number) (firstThatApplies (ts ++ us)) ≡ choose b (t .number) (firstThatApplies ts)
+    go true n r = refl
+    go false n r = r n
+
+pub passed-first : (ts us : List Test) → numbered ts ≡ true → firstThatApplies ts ≡ 0 → firstThatApplies (ts ++ us) ≡ firstThatApplies us
+unfolding firstThatApplies
+passed-first [] us p e = refl
+passed-first (t ∷ ts) us p e = go (t .applies) e (λ z. passed-first ts us (and-true (ltb 0 (t .number)) (numbered ts) p .1) z)
+  where
+    go : (b : Bool) → choose b (t .number) (firstThatApplies ts) ≡ 0 → (firstThatApplies ts ≡ 0 → firstThatApplies (ts ++ us) ≡ firstThatApplies us)
+        → choose b (t .number) (firstThatApplies (ts ++ us)) ≡ firstThatApplies us
+    go true z r = absurd (omega (arith, ltb→lt 0 (t .number) (subst T (sym (and-true (ltb 0 (t .number)) (numbered ts) p .0)) tt), z))
+    go false z r = r z
+
+pub taken-first : (ts us : List Test) → numbered ts ≡ true → firstThatApplies (ts ++ us) ≡ 0 → (firstThatApplies ts ≡ 0) × (firstThatApplies us ≡ 0)
+taken-first ts us p e = elim (ℕ-discrete (firstThatApplies ts) 0) as (λ o. (firstThatApplies ts ≡ 0) × (firstThatApplies us ≡ 0)) [
+  | yes z ↦ (z, sym (passed-first ts us p z) ∙ e)
+  | no n ↦ absurd (n (sym (refused-first ts us n) ∙ e))
+]
 
 -- ---- the single tests
 
@@ -91,142 +114,133 @@ all-below q pos [] e i = pos
 all-below q pos (x ∷ xs) e zero = ltb→lt x q (subst T (sym (and-true (ltb x q) (allBelow q xs) e .0)) tt)
 all-below q pos (x ∷ xs) e (suc i) = all-below q pos xs (and-true (ltb x q) (allBelow q xs) e .1) i
 
--- ---- the four calls
-
--- the limits of q, k, J and the positions
-pub record Limits (c : Code) : Type 0 where
-  pub q-low : 3 ≤ c .q
-  pub q-high : c .q ≤ 256
-  pub k-low : 1 ≤ c .k
-  pub k-high : c .k ≤ 4096
-  pub J-low : 1 ≤ length (c .positions)
-  pub J-high : length (c .positions) ≤ 32
-  pub rising : positionsFit (c .k) 0 (c .positions) ≡ true
-
--- a position within the limits is below k
-all-index : (P : ℕ → Type 0) (xs : List ℕ) → All P xs → (i : ℕ) → i < length xs → P (getD xs i 0)
-all-index P [] a i h = absurd (not-suc-le-zero h)
-all-index P (x ∷ xs) a zero h = a .0
-all-index P (x ∷ xs) a (suc i) h = all-index P xs (a .1) i (le-of-suc-le-suc h)
-
-pub position-below : (c : Code) → Limits c → (i : ℕ) → i < length (c .positions) → getD (c .positions) i 0 < c .k
-position-below c l = all-index (λ p. p < c .k) (c .positions) (rising-facts (c .k) 0 (c .positions) (l .rising) .0)
-
--- what a page's tests say: the code's limits, self-orthogonality, the buffers, the symbols
-pub record PageFits (c : Code) (fits : Bool) (input : List ℕ) : Type 0 where
-  pub limits : Limits c
-  pub orthogonal : selfOrthogonal c ≡ true
-  pub buffers : fits ≡ true
-  pub symbols : allBelow (c .q) input ≡ true
-
-limits-of : (c : Code) → within 3 256 (c .q) ≡ true → within 1 4096 (c .k) ≡ true → within 1 32 (length (c .positions)) ≡ true → positionsFit (c .k) 0 (c .positions)
-    ≡ true → Limits c
-limits-of c a b d e =
-    let q = within-facts 3 256 (c .q) a in
-    let k = within-facts 1 4096 (c .k) b in
-    let J = within-facts 1 32 (length (c .positions)) d in
-    record { q-low = q .0; q-high = q .1; k-low = k .0; k-high = k .1; J-low = J .0; J-high = J .1; rising = e }
+-- ---- the table
 
 -- the table check answers 0 if and only if the limits hold and the test of shared checks does
 pub table-accepted : (c : Code) → tableAnswer c ≡ 0 → Limits c × (selfOrthogonal c ≡ true)
-unfolding tableAnswer tableTests codeTests
+unfolding tableAnswer tableTests sizeTests
 table-accepted c e =
-    let n = answer-none (tableTests c) refl e in
-    (limits-of c (not-false _ (n .0)) (not-false _ (n .1 .0)) (not-false _ (n .1 .1 .0)) (not-false _ (n .1 .1 .1 .0)), not-false _ (n .1 .1 .1 .1 .0))
+    let t1 = taken-by 0 (within 3 256 (c .q)) _ e in
+    let t2 = taken-by 1 (within 1 4096 (c .k)) _ (t1 .1) in
+    let t3 = taken-by 2 (within 1 32 (checksEach c)) _ (t2 .1) in
+    let t4 = taken-by 3 (positionsFit (c .k) 0 (c .positions)) _ (t3 .1) in
+    let t5 = taken-by 4 (selfOrthogonal c) [] (t4 .1) in
+    let q = within-facts 3 256 (c .q) (t1 .0) in
+    let k = within-facts 1 4096 (c .k) (t2 .0) in
+    let J = within-facts 1 32 (checksEach c) (t3 .0) in (
+      record {
+        q-low = q .0;
+        q-high = q .1;
+        table = record { k-low = k .0; k-high = k .1; J-low = J .0; J-high = J .1; ascending = fit-test (c .k) (c .positions) .0 (t4 .0) };
+      },
+      t5 .0,
+    )
 
 pub table-accepts : (c : Code) → Limits c → selfOrthogonal c ≡ true → tableAnswer c ≡ 0
-unfolding tableAnswer tableTests codeTests
-table-accepts c l o = none-answer (tableTests c) (
-  ap not (within-make 3 256 (c .q) (l .q-low) (l .q-high)),
-  (
-    ap not (within-make 1 4096 (c .k) (l .k-low) (l .k-high)),
-    (
-      ap not (within-make 1 32 (length (c .positions)) (l .J-low) (l .J-high)),
-      (ap not (l .rising), (ap not o, tt)),
-    ),
-  ),
-)
+unfolding tableAnswer tableTests sizeTests
+table-accepts c l o =
+    let t = l .table in
+    passed-by 1 (within 3 256 (c .q)) _ (within-make 3 256 (c .q) (l .q-low) (l .q-high))
+    ∙ passed-by 2 (within 1 4096 (c .k)) _ (within-make 1 4096 (c .k) (t .k-low) (t .k-high))
+    ∙ passed-by 3 (within 1 32 (checksEach c)) _ (within-make 1 32 (checksEach c) (t .J-low) (t .J-high))
+    ∙ passed-by 4 (positionsFit (c .k) 0 (c .positions)) _ (fit-test (c .k) (c .positions) .1 (t .ascending))
+    ∙ passed-by 5 (selfOrthogonal c) [] o
+    ∙ nothing-applies
 
-pub page-accepted : (c : Code) (fits : Bool) (input : List ℕ) → firstThatApplies (pageTests c fits input) ≡ 0 → PageFits c fits input
-unfolding pageTests tableTests codeTests
-page-accepted c fits input e =
-    let n = answer-none (pageTests c fits input) refl e in
+pub table-usable : (c : Code) → tableAnswer c ≡ 0 → Usable c
+table-usable c e =
+    let a = table-accepted c e in
+    record { q-low = omega (arith, a .0 .q-low); table = a .0 .table; orthogonal = orthogonal-test c .0 (a .1) }
+
+-- ---- the calls that read symbols
+
+-- what they take: an accepted table, fitting buffers, symbols below q
+pub record PageFits (c : Code) (fits : Bool) (input : List ℕ) : Type 0 where
+  pub limits : Limits c
+  pub usable : Usable c
+  pub buffers : fits ≡ true
+  pub symbols : Below (c .q) input
+
+-- their number is the table's where that is not 0; else the tests of lengths and symbols give it
+pub page-refused : (c : Code) (fits : Bool) (input : List ℕ) → tableAnswer c ≢ 0 → firstThatApplies (pageTests c fits input) ≡ tableAnswer c
+unfolding pageTests tableAnswer
+page-refused c fits input n = refused-first (tableTests c) _ n
+
+pub page-passed : (c : Code) (fits : Bool) (input : List ℕ) → tableAnswer c ≡ 0
+    → firstThatApplies (pageTests c fits input) ≡ firstThatApplies (test 6 (not fits) ∷ test 7 (not (allBelow (c .q) input)) ∷ [])
+unfolding pageTests tableAnswer tableTests sizeTests
+page-passed c fits input e = passed-first (tableTests c) (test 6 (not fits) ∷ test 7 (not (allBelow (c .q) input)) ∷ []) refl e
+
+pub page-taken : (c : Code) (fits : Bool) (input : List ℕ) → firstThatApplies (pageTests c fits input) ≡ 0 → PageFits c fits input
+unfolding pageTests tableAnswer tableTests sizeTests
+page-taken c fits input e =
+    let t = taken-first (tableTests c) (test 6 (not fits) ∷ test 7 (not (allBelow (c .q) input)) ∷ []) refl e in
+    let a = table-accepted c (t .0) in
+    let b = taken-by 5 fits _ (t .1) in
     record {
-      limits = limits-of c (not-false _ (n .0)) (not-false _ (n .1 .0)) (not-false _ (n .1 .1 .0)) (not-false _ (n .1 .1 .1 .0));
-      orthogonal = not-false _ (n .1 .1 .1 .1 .0);
-      buffers = not-false _ (n .1 .1 .1 .1 .1 .0);
-      symbols = not-false _ (n .1 .1 .1 .1 .1 .1 .0);
+      limits = a .0;
+      usable = table-usable c (t .0);
+      buffers = b .0;
+      symbols = all-below (c .q) (omega (arith, a .0 .q-low)) input (taken-by 6 (allBelow (c .q) input) [] (b .1) .0);
     }
 
--- the number of a call that reads symbols, from the table's number
-page-number : (c : Code) (fits : Bool) (input : List ℕ)
-    → firstThatApplies (pageTests c fits input) ≡ choose (eqb (tableAnswer c) 0) (choose (not fits) 6 (choose (not (allBelow (c .q) input)) 7 0)) (tableAnswer c)
-unfolding pageTests tableAnswer tableTests codeTests firstThatApplies
-page-number c fits input = answer-append (tableTests c) (test 6 (not fits) ∷ test 7 (not (allBelow (c .q) input)) ∷ []) refl
+pub page-bytes : (c : Code) (fits : Bool) (input : List ℕ) → PageFits c fits input → ByteCode c
+page-bytes c fits input f = record { q-low = f .usable .q-low; q-high = f .limits .q-high; table = f .limits .table }
 
-pub page-refused : (c : Code) (fits : Bool) (input : List ℕ) → tableAnswer c ≢ 0 → firstThatApplies (pageTests c fits input) ≡ tableAnswer c
-page-refused c fits input n = page-number c fits input ∙ rw (eqb-no (tableAnswer c) 0 n) refl
+-- ---- encode
 
-pub page-taken : (c : Code) (fits : Bool) (input : List ℕ) → tableAnswer c ≡ 0
-    → firstThatApplies (pageTests c fits input) ≡ choose (not fits) 6 (choose (not (allBelow (c .q) input)) 7 0)
-page-taken c fits input e = page-number c fits input ∙ rw (eqb-yes (tableAnswer c) 0 e) refl
+-- the data that encode takes are symbols below q, and they are the data symbols of the page that it writes
+pub encoded-symbols : (c : Code) (u sent : List ℕ) → Encodes c u sent → SymbolsBelow (c .q) (dataCount c) u
+unfolding encodeAnswer
+encoded-symbols c u sent e =
+    let f = page-taken c _ u (e .0) in
+    record { len = eqb-true (length u) (dataCount c) (and-true (eqb (length u) (dataCount c)) _ (f .buffers) .0); low = f .symbols }
 
--- and decode's from that
-decode-number : (c : Code) (page thresholds : List ℕ) (r s d : ℕ)
-    → decodeAnswer c page thresholds r s d
-    ≡ choose (eqb (firstThatApplies (pageTests c (eqb (length page) (pageLength c) && stateFits c r s d) page)) 0)
-    (choose (not (within 1 64 (length thresholds))) 8 (choose (not (allBelow 33 thresholds)) 9 0))
-    (firstThatApplies (pageTests c (eqb (length page) (pageLength c) && stateFits c r s d) page))
-unfolding decodeAnswer pageTests tableTests codeTests thresholdTests firstThatApplies
-decode-number c page ts r s d = answer-append (pageTests c (eqb (length page) (pageLength c) && stateFits c r s d) page) (thresholdTests ts) refl
+pub encoded-data : (c : Code) (u sent : List ℕ) → Encodes c u sent → dataOf c sent ≡ u
+unfolding codeWord
+encoded-data c u sent e = ap (λ (p : List ℕ). take (dataCount c) p) (e .1) ∙ take-at u (checkSymbols c u) (dataCount c) (encoded-symbols c u sent e .len)
 
-pub decode-refused : (c : Code) (page thresholds : List ℕ) (r s d : ℕ) → firstThatApplies (pageTests c (eqb (length page) (pageLength c) && stateFits c r s d) page) ≢ 0
-    → decodeAnswer c page thresholds r s d ≡ firstThatApplies (pageTests c (eqb (length page) (pageLength c) && stateFits c r s d) page)
-decode-refused c page ts r s d n =
-    decode-number c page ts r s d ∙ rw (eqb-no (firstThatApplies (pageTests c (eqb (length page) (pageLength c) && stateFits c r s d) page)) 0 n) refl
+-- ---- decode
 
-pub decode-taken : (c : Code) (page thresholds : List ℕ) (r s d : ℕ) → firstThatApplies (pageTests c (eqb (length page) (pageLength c) && stateFits c r s d) page) ≡ 0
-    → decodeAnswer c page thresholds r s d ≡ choose (not (within 1 64 (length thresholds))) 8 (choose (not (allBelow 33 thresholds)) 9 0)
-decode-taken c page ts r s d e =
-    decode-number c page ts r s d ∙ rw (eqb-yes (firstThatApplies (pageTests c (eqb (length page) (pageLength c) && stateFits c r s d) page)) 0 e) refl
+-- its number is that of the tests of the page where that is not 0; else the tests of thresholds give it
+pub decode-refused : (c : Code) (fits : Bool) (page thresholds : List ℕ) → firstThatApplies (pageTests c fits page) ≢ 0
+    → decodeAnswer c fits page thresholds ≡ firstThatApplies (pageTests c fits page)
+unfolding decodeAnswer
+decode-refused c fits page ts n = refused-first (pageTests c fits page) (thresholdTests ts) n
 
--- what decode takes
-pub record DecodeFits (c : Code) (page thresholds : List ℕ) (r s d : ℕ) : Type 0 where
-  pub fits : PageFits c (eqb (length page) (pageLength c) && stateFits c r s d) page
+pub decode-passed : (c : Code) (fits : Bool) (page thresholds : List ℕ) → firstThatApplies (pageTests c fits page) ≡ 0
+    → decodeAnswer c fits page thresholds ≡ firstThatApplies (thresholdTests thresholds)
+unfolding decodeAnswer pageTests tableTests sizeTests
+decode-passed c fits page ts e = passed-first (pageTests c fits page) (thresholdTests ts) refl e
+
+-- what decode takes, whatever other buffers a form of the call lends
+pub record Taken (c : Code) (page thresholds : List ℕ) (lent : State) : Type 0 where
+  pub usable : Usable c
+  pub bytes : c .q ≤ 256
+  pub whole : SymbolsBelow (c .q) (pageLength c) page
+  pub len-result : length (lent .result) ≡ dataCount c
+  pub len-syndrome : length (lent .syndrome) ≡ checkCount c
+  pub len-difference : length (lent .difference) ≡ dataCount c
   pub some : 1 ≤ length thresholds
   pub few : length thresholds ≤ 64
-  pub small : allBelow 33 thresholds ≡ true
 
-pub decode-accepted : (c : Code) (page thresholds : List ℕ) (r s d : ℕ) → decodeAnswer c page thresholds r s d ≡ 0 → DecodeFits c page thresholds r s d
-unfolding decodeAnswer pageTests tableTests codeTests thresholdTests
-decode-accepted c page ts r s d e =
-    let fits : Bool = eqb (length page) (pageLength c) && stateFits c r s d in
-    let n = answer-none (pageTests c fits page ++ thresholdTests ts) refl e in
-    let w = within-facts 1 64 (length ts) (not-false _ (n .1 .1 .1 .1 .1 .1 .1 .0)) in
+pub decode-taken : (c : Code) (others : Bool) (page thresholds : List ℕ) (lent : State) → decodeAnswer c (others && decodeFits c page lent) page thresholds ≡ 0
+    → Taken c page thresholds lent
+unfolding decodeAnswer pageTests tableTests sizeTests thresholdTests
+decode-taken c others page ts lent e =
+    let t = taken-first (pageTests c (others && decodeFits c page lent) page) (thresholdTests ts) refl e in
+    let f = page-taken c (others && decodeFits c page lent) page (t .0) in
+    let w = within-facts 1 64 (length ts) (taken-by 7 (within 1 64 (length ts)) _ (t .1) .0) in
+    let b = and-true (eqb (length page) (pageLength c)) (stateFits c lent) (and-true others (decodeFits c page lent) (f .buffers) .1) in
+    let r = and-true (eqb (length (lent .result)) (dataCount c)) _ (b .1) in
+    let s = and-true (eqb (length (lent .syndrome)) (checkCount c)) (eqb (length (lent .difference)) (dataCount c)) (r .1) in
     record {
-      fits = record {
-        limits = limits-of c (not-false _ (n .0)) (not-false _ (n .1 .0)) (not-false _ (n .1 .1 .0)) (not-false _ (n .1 .1 .1 .0));
-        orthogonal = not-false _ (n .1 .1 .1 .1 .0);
-        buffers = not-false _ (n .1 .1 .1 .1 .1 .0);
-        symbols = not-false _ (n .1 .1 .1 .1 .1 .1 .0);
-      };
+      usable = f .usable;
+      bytes = f .limits .q-high;
+      whole = record { len = eqb-true (length page) (pageLength c) (b .0); low = f .symbols };
+      len-result = eqb-true (length (lent .result)) (dataCount c) (r .0);
+      len-syndrome = eqb-true (length (lent .syndrome)) (checkCount c) (s .0);
+      len-difference = eqb-true (length (lent .difference)) (dataCount c) (s .1);
       some = w .0;
       few = w .1;
-      small = not-false _ (n .1 .1 .1 .1 .1 .1 .1 .1 .0);
     }
-
--- a page that a call takes is symbols below q, and so is the data that encode takes
-fits-length : (a b : ℕ) (more : Bool) → (eqb a b && more) ≡ true → a ≡ b
-fits-length a b more e = eqb→eq a b (subst T (sym (and-true (eqb a b) more e .0)) tt)
-
-pub page-symbols : (c : Code) (page : List ℕ) (r s d : ℕ) → PageFits c (eqb (length page) (pageLength c) && stateFits c r s d) page → SymbolsBelow (c .q) (pageLength c) page
-page-symbols c page r s d f = record {
-  len = fits-length (length page) (pageLength c) (stateFits c r s d) (f .buffers);
-  low = all-below (c .q) (omega (arith, f .limits .q-low)) page (f .symbols);
-}
-
-pub data-symbols : (c : Code) (u : List ℕ) → PageFits c (eqb (length u) (dataCount c) && eqb (pageLength c) (pageLength c)) u → SymbolsBelow (c .q) (dataCount c) u
-data-symbols c u f = record {
-  len = fits-length (length u) (dataCount c) (eqb (pageLength c) (pageLength c)) (f .buffers);
-  low = all-below (c .q) (omega (arith, f .limits .q-low)) u (f .symbols);
-}

@@ -10,8 +10,12 @@ pub mod Recovery
 pub mod Page
 pub mod Circulant
 pub mod Tables
+pub mod Codes
 pub mod Answers
+pub mod Outcomes
+pub mod Runs
 pub mod Decoding
+pub mod Moments
 pub mod Statements
 pub mod Turns
 pub mod Written

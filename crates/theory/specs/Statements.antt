@@ -1,27 +1,31 @@
 -- The statements that a reviewer reads. Their proofs stand in the other files.
-use mathlib.Core.Path.{_≡_, refl, subst}
+use mathlib.Core.Path.{_≡_, ap, sym, _∙_, subst}
 use mathlib.Core.Logic.{_≢_, _↔_}
-use mathlib.Core.Bool.{true, _&&_}
+use mathlib.Core.Bool.{Bool, true, _&&_}
 use mathlib.Core.List.{List, [], _∷_, _++_}
-use Prim.Native.Nat.{ℕ, _≤_, _<_}
+use Prim.Native.Nat.{ℕ, _%_, _≤_, _<_}
 use native.Mathlib.Omega.{arith}
-use lib.Dec.{eqb}
-use lib.ListN.{length}
-use Rattle.model.specs.Calls.{tableAnswer, encodeAnswer, decodeAnswer}
-use Rattle.model.specs.Code.{Code, dataCount, checkCount, pageLength, checksOf, SelfOrthogonal, differences, allDifferent}
-use Rattle.model.specs.Decoder.{State, Visit, after, passes, thresholdsRun, dataSymbols, opened, passesOf, run, distanceTo, decodedState}
-use Rattle.model.specs.Demand.{VisitFalls, Falls, RunFalls, Recovers}
-use Rattle.model.specs.Symbols.{count, distance}
+use lib.ListN.{length, getD}
+use Rattle.model.specs.Calls.{decodeFits, tableAnswer, decodeAnswer}
+use Rattle.model.specs.Code.{Code, dataCount, checkCount, pageLength, checksOf, checkSymbol, checkSymbols, dataOf, receivedChecks, SelfOrthogonal, differences, allDifferent}
+use Rattle.model.specs.Decoder.{State, Visit, after, passes, dataSymbols, opened, passesOf, run, distanceTo, Counts, decodedState, decodedCounts}
+use Rattle.model.specs.Demand.{VisitFalls, Falls, RunFalls, DecodeFalls, Recovers, DecodeRecovers}
+use Rattle.model.specs.Limits.{TableLimits, Limits}
+use Rattle.model.specs.Symbols.{count, addEach, subEach}
 use Rattle.model.specs.Vote.{leader, leadCount, nextCount}
-use Rattle.theory.specs.Answers.{Limits, table-accepted, table-accepts, page-accepted, decode-accepted, page-symbols, data-symbols}
-use Rattle.theory.specs.Decoding.{range-passes, symbols-range, code-incidence, code-falls, code-recovers}
-use Rattle.theory.specs.Falling.{falls, weight-falls, falls-at}
-use Rattle.theory.specs.Page.{sent}
-use Rattle.theory.specs.Steps.{Sized, stateWeight}
+use Rattle.theory.specs.Answers.{table-accepted, table-accepts, table-usable, Taken, decode-taken}
+use Rattle.theory.specs.Codes.{code-incidence, check-symbol, check-symbols}
+use Rattle.theory.specs.Counting.{All}
+use Rattle.theory.specs.Decoding.{code-falls, code-received, code-sized, code-tied, code-distance, code-recovers}
+use Rattle.theory.specs.Distance.{length-tabulate}
+use Rattle.theory.specs.Falling.{InRange, weight-falls, falls-at}
+use Rattle.theory.specs.Moments.{result-is, syndrome-is, runs-few, first-run, changes-few, weight-few}
+use Rattle.theory.specs.Runs.{range-passes, symbols-range, symbols-visited}
+use Rattle.theory.specs.Steps.{checkSum, SymbolsBelow, Sized, stateWeight}
 use Rattle.theory.specs.Tables.{orthogonal-test, orthogonal-differences}
 use Rattle.theory.specs.Voting.{leader-ahead, lead-max, next-max, next-least, leader-mem}
 
--- ---- 1. the table check
+-- ---- 1. the table check and the code
 
 -- The table check answers 0 if and only if the limits hold and any two different data symbols share at most one check.
 pub accepted : (c : Code) → (tableAnswer c ≡ 0) ↔ (Limits c × SelfOrthogonal c)
@@ -31,49 +35,119 @@ accepted c = (
 )
 
 -- Within the limits that is equal to all (a − b) mod k over ordered pairs of different positions being different.
-pub by-differences : (c : Code) → Limits c → SelfOrthogonal c ↔ (allDifferent (differences c) ≡ true)
-by-differences c l = orthogonal-differences c (l .k-low) (l .rising)
+pub by-differences : (c : Code) → TableLimits c → SelfOrthogonal c ↔ (allDifferent (differences c) ≡ true)
+by-differences c l = orthogonal-differences c (l .k-low) (l .ascending)
 
--- ---- 2. demand 3, first half
+-- A check, by positions, is the sum over the data symbols that have it among their checks.
+pub check-sum : (c : Code) → TableLimits c → (u : List ℕ) (i : ℕ) → i < checkCount c → checkSymbol c u i ≡ checkSum (dataCount c) (checksOf c) u i % c .q
+check-sum c l u i h = check-symbol c l u i h
 
--- For every input that decode takes: every visit of the run, in its place, falls, and the total is at most the distance at the start.
--- What decode hands back is what this run leaves (decodedState), with its changes counted (decodedCounts), by definition.
-pub run-falls : (c : Code) (page thresholds : List ℕ) (r s d : ℕ) → decodeAnswer c page thresholds r s d ≡ 0 → RunFalls c thresholds page
-run-falls c page ts r s d e =
-    let f = decode-accepted c page ts r s d e in
-    code-falls c (f .fits .limits) (orthogonal-test c .0 (f .fits .orthogonal)) page (page-symbols c page r s d (f .fits)) ts
+-- ---- 2. lists of visits from an opened page
 
--- Any visit of the run, from the state that the visits before it leave.
-pub visit-falls : (c : Code) (page thresholds : List ℕ) (r s d : ℕ) → decodeAnswer c page thresholds r s d ≡ 0 → (vs : List Visit) (v : Visit) (ws : List Visit)
-    → run c thresholds page ≡ vs ++ v ∷ ws → VisitFalls (c .q) (checksOf c) (distanceTo c page) v (after (c .q) (checksOf c) vs (opened c page))
-visit-falls c page ts r s d e vs v ws split =
+-- an accepted table and a page of symbols, whole
+abbrev pub Received : Code → List ℕ → Type 0
+Received c page = (tableAnswer c ≡ 0) × SymbolsBelow (c .q) (pageLength c) page
+
+-- Demand 3, first half: any visits of data symbols, with any thresholds, in any order, fall, and their total is at most the distance at the start.
+pub visits-fall : (c : Code) (page : List ℕ) → Received c page → (visits : List Visit) → InRange (dataCount c) visits → RunFalls c page visits
+visits-fall c page w vs r = code-falls c (table-usable c (w .0)) page (w .1) vs r
+
+-- Any one of them, from the state that those before it leave.
+pub visit-falls : (c : Code) (page : List ℕ) (visits : List Visit) → RunFalls c page visits → (vs : List Visit) (v : Visit) (ws : List Visit)
+    → visits ≡ vs ++ v ∷ ws → VisitFalls (c .q) (checksOf c) (distanceTo c page) v (after (c .q) (checksOf c) vs (opened c page))
+visit-falls c page us f vs v ws split =
     falls-at (c .q) (checksOf c) (distanceTo c page) vs v ws (opened c page)
-    (subst (λ (us : List Visit). Falls (c .q) (checksOf c) (distanceTo c page) us (opened c page)) split (run-falls c page ts r s d e .falls))
+    (subst (λ (l : List Visit). Falls (c .q) (checksOf c) (distanceTo c page) l (opened c page)) split (f .falls))
 
--- ---- 3. the same for S and D of any content in range
+-- Demand 3, second half: after any passes over data symbols that leave none out, one of them with threshold h, the result is the data sent
+-- where 2t + h is at most J.
+pub passes-recover : (c : Code) (page : List ℕ) → Received c page → (symbols : List ℕ) → All (λ j. j < dataCount c) symbols
+    → ((j : ℕ) → j < dataCount c → 0 < count j symbols) → (thresholds : List ℕ) (h : ℕ) → 0 < count h thresholds
+    → Recovers c h page (after (c .q) (checksOf c) (passes symbols thresholds) (opened c page) .result)
+passes-recover c page w js a all ts h n = code-recovers c (table-usable c (w .0)) page (w .1) js a all ts h n
+
+-- At every moment, which is after any visits, result = received data + D, S = the code word's checks − the received checks, and the distance is
+-- the number of nonzero symbols of S and D.
+pub record Moment (c : Code) (page : List ℕ) (st : State) : Type 0 where
+  pub result-of : st .result ≡ addEach (c .q) (dataOf c page) (st .difference)
+  pub syndrome-of : st .syndrome ≡ subEach (c .q) (checkSymbols c (st .result)) (receivedChecks c page)
+  pub distance-of : distanceTo c page st ≡ stateWeight st
+
+pub every-moment : (c : Code) (page : List ℕ) → Received c page → (visits : List Visit) → InRange (dataCount c) visits
+    → Moment c page (after (c .q) (checksOf c) visits (opened c page))
+every-moment c page w vs r =
+    let l = table-usable c (w .0) in
+    let got = code-received c l page (w .1) in
+    let st : State = after (c .q) (checksOf c) vs (opened c page) in
+    let z = code-sized c l page (w .1) vs in
+    let t = code-tied c l page (w .1) vs r in
+    let pos = code-incidence c l .pos in
+    record {
+      result-of = result-is pos got st z t;
+      syndrome-of = syndrome-is pos got st z t
+          ∙ ap (λ (v : List ℕ). subEach (c .q) v (receivedChecks c page)) (sym (check-symbols c (l .table) (st .result)));
+      distance-of = code-distance c l page (w .1) vs r;
+    }
 
 -- On any state of symbols below q, of an accepted table: every visit of a list lowers the nonzero symbols of S and D together likewise.
-pub weight-falls-on : (c : Code) → tableAnswer c ≡ 0 → (st : State) → Sized (c .q) (dataCount c) (checkCount c) st → (thresholds : List ℕ)
-    → Falls (c .q) (checksOf c) stateWeight (passes (dataSymbols c) thresholds) st
-weight-falls-on c e st z ts =
-    let a = accepted c .0 e in
-    weight-falls (code-incidence c (a .0) (a .1)) (passes (dataSymbols c) ts) (range-passes (dataCount c) (dataSymbols c) (symbols-range c) ts) st z
+pub weight-falls-on : (c : Code) → tableAnswer c ≡ 0 → (st : State) → Sized (c .q) (dataCount c) (checkCount c) st → (visits : List Visit)
+    → InRange (dataCount c) visits → Falls (c .q) (checksOf c) stateWeight visits st
+weight-falls-on c e st z vs r = weight-falls (code-incidence c (table-usable c e)) vs r st z
 
--- ---- 4. demand 3, second half
+-- ---- 3. decode, for every input that it takes: `others` are the buffers that only one form of the call lends
 
--- For every input that decode takes: where the page is within t places of a page that encode writes, and 2t plus the first threshold is at
--- most J, the result is the data sent, whatever the later thresholds.
-pub recovers-sent : (c : Code) (page thresholds : List ℕ) (r s d : ℕ) → decodeAnswer c page thresholds r s d ≡ 0
-    → Recovers c thresholds page (decodedState c thresholds page .result)
-unfolding passesOf thresholdsRun encodeAnswer
-recovers-sent c page [] r s d e u sent t taken few room = absurd (omega (arith, decode-accepted c page [] r s d e .some))
-recovers-sent c page (h ∷ ts) r s d e u sent t taken few room =
-    let f = decode-accepted c page (h ∷ ts) r s d e in
-    let g = page-accepted c (eqb (length u) (dataCount c) && eqb (pageLength c) (pageLength c)) u (taken .0) in
-    code-recovers c (f .fits .limits) (orthogonal-test c .0 (f .fits .orthogonal)) page (page-symbols c page r s d (f .fits)) (h ∷ ts) h _ refl
-    u (data-symbols c u g) t (subst (λ (p : List ℕ). distance p page ≤ t) (taken .1) few) room
+-- "Passes are at most 64, changes at most 262,144 (64 times 4,096), distances at most 8,192."
+pub record Bounded (n : Counts) : Type 0 where
+  pub passes-most : n .passes ≤ 64
+  pub changes-most : n .changes ≤ 262144
+  pub start-most : n .start ≤ 8192
+  pub end-most : n .end ≤ 8192
 
--- ---- 5. the vote
+module _ (c : Code) (others : Bool) (page thresholds : List ℕ) (lent : State) (taken : decodeAnswer c (others && decodeFits c page lent) page thresholds ≡ 0) where
+  what : Taken c page thresholds lent
+  what = decode-taken c others page thresholds lent taken
+
+  range : InRange (dataCount c) (run c thresholds page)
+  unfolding run
+  range = range-passes (dataCount c) (dataSymbols c) (symbols-range c) (passesOf c thresholds page)
+
+  -- Demand 3, first half. What decode hands back is what this run leaves (decodedState), with its changes counted (decodedCounts), by definition.
+  pub decode-falls : DecodeFalls c thresholds page (decodedCounts c thresholds page)
+  unfolding decodedCounts decodedState
+  decode-falls =
+      let f = code-falls c (what .usable) page (what .whole) (run c thresholds page) range in
+      record { falls = f; total = f .total }
+
+  -- Demand 3, second half.
+  pub decode-recovers : DecodeRecovers c thresholds page (decodedState c thresholds page .result)
+  unfolding decodedState run passesOf
+  decode-recovers =
+      code-recovers c (what .usable) page (what .whole) (dataSymbols c) (symbols-range c) (symbols-visited c) (passesOf c thresholds page) (getD thresholds 0 0)
+      (first-run (c .q) (checksOf c) (dataSymbols c) thresholds (opened c page) (what .some))
+
+  pub counts-bounded : Bounded (decodedCounts c thresholds page)
+  unfolding decodedCounts decodedState run passesOf after
+  counts-bounded =
+      let l = what .usable in
+      let js : List ℕ = dataSymbols c in
+      let n : length js ≤ 4096 = omega (arith, length-tabulate (dataCount c) (λ j. j), l .table .k-high) in
+      let few : length (passesOf c thresholds page) ≤ length thresholds = runs-few (c .q) (checksOf c) js thresholds (opened c page) in
+      record {
+        passes-most = omega (arith, few, what .few);
+        changes-most = omega (arith, few, what .few, changes-few (c .q) (checksOf c) js n (passesOf c thresholds page) (opened c page));
+        start-most = at-most [] tt;
+        end-most = at-most (run c thresholds page) range;
+      }
+    where
+      at-most : (vs : List Visit) → InRange (dataCount c) vs → distanceTo c page (after (c .q) (checksOf c) vs (opened c page)) ≤ 8192
+      at-most vs r = omega (
+        arith,
+        code-distance c (what .usable) page (what .whole) vs r,
+        weight-few (c .q) (dataCount c) (checkCount c) _ (code-sized c (what .usable) page (what .whole) vs),
+        what .usable .table .k-high,
+      )
+
+-- ---- 4. the vote
 
 -- h0 is the smallest of the commonest values, m0 its count, m1 the largest other count.
 pub record VoteMeans (es : List ℕ) : Type 0 where

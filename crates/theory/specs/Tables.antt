@@ -4,12 +4,14 @@ use mathlib.Core.Logic.{_≢_, _↔_}
 use mathlib.Core.Bool.{Bool, true, false, _&&_, _||_}
 use mathlib.Core.List.{List, [], _∷_, _++_}
 use Prim.Native.Nat.{ℕ, zero, suc, _+_, _≤_, _<_}
+use native.Mathlib.Nat.{not-suc-le-zero, le-of-suc-le-suc}
 use native.Mathlib.Decide.{ℕ-discrete, decLe}
 use native.Mathlib.Omega.{arith}
-use lib.Dec.{T, eqb, ltb, leb, eqb→eq, ltb→lt, leb→le, le→leb}
+use lib.Dec.{T, eqb, ltb, leb, eqb→eq, ltb→lt, lt→ltb, leb→le, le→leb}
 use lib.ListN.{length, getD}
 use Rattle.model.specs.Calls.{positionsFit}
 use Rattle.model.specs.Code.{Code, checksBy, shared, SelfOrthogonal, everyBelow, selfOrthogonal, differencesFrom, differencesBy, differences, allDifferent}
+use Rattle.model.specs.Limits.{Ascending}
 use Rattle.model.specs.Symbols.{sub, same, count, sumOver}
 use Rattle.theory.specs.Circulant.{pairCount, common-pairs, TableLaws, once-cross}
 use Rattle.theory.specs.Counting.{is-true, eqb-yes, eqb-no, same-yes, same-no, count-nil, count-cons, All, Distinct, distinct-count}
@@ -93,11 +95,35 @@ rising-facts k b (p ∷ ps) t =
     ((f .1, ih .0), (ih .2 p (omega arith), ih .1), λ v h. omega (arith, f .0, count-cons v p ps, same-no v p (omega (arith, f .0)), ih .2 v (omega (arith, f .0))))
 
 -- each position is below the next
-pub rising-next : (k b : ℕ) (ps : List ℕ) → positionsFit k b ps ≡ true → (n : ℕ) → suc n < length ps → getD ps n 0 < getD ps (suc n) 0
+rising-next : (k b : ℕ) (ps : List ℕ) → positionsFit k b ps ≡ true → (n : ℕ) → suc n < length ps → getD ps n 0 < getD ps (suc n) 0
 rising-next k b [] t n h = absurd (omega arith)
 rising-next k b (p ∷ []) t n h = absurd (omega arith)
 rising-next k b (p ∷ (r ∷ ps)) t zero h = fit-cons k (suc p) r ps (fit-cons k b p (r ∷ ps) t .2) .0
 rising-next k b (p ∷ (r ∷ ps)) t (suc n) h = rising-next k (suc p) (r ∷ ps) (fit-cons k b p (r ∷ ps) t .2) n (omega arith)
+
+-- the test of positions, and what it means
+all-index : (P : ℕ → Type 0) (xs : List ℕ) → All P xs → (i : ℕ) → i < length xs → P (getD xs i 0)
+all-index P [] a i h = absurd (not-suc-le-zero h)
+all-index P (x ∷ xs) a zero h = a .0
+all-index P (x ∷ xs) a (suc i) h = all-index P xs (a .1) i (le-of-suc-le-suc h)
+
+fit-make : (k least : ℕ) (ps : List ℕ) → Ascending k ps → (0 < length ps → least ≤ getD ps 0 0) → positionsFit k least ps ≡ true
+unfolding positionsFit
+fit-make k least [] a l = refl
+fit-make k least (p ∷ ps) a l =
+    rw (is-true (ltb p k) (lt→ltb p k (a .below 0 (omega arith))), is-true (leb least p) (le→leb least p (l (omega arith))))
+    (fit-make k (suc p) ps (record { below = (λ i h. a .below (suc i) (omega arith)); above = (λ i h. a .above (suc i) (omega arith)) })
+    (λ h. a .above 0 (omega arith)))
+
+pub fit-test : (k : ℕ) (ps : List ℕ) → (positionsFit k 0 ps ≡ true) ↔ Ascending k ps
+fit-test k ps = (
+  λ e. record { below = all-index (λ p. p < k) ps (rising-facts k 0 ps e .0); above = rising-next k 0 ps e },
+  λ a. fit-make k 0 ps a (λ h. omega arith),
+)
+
+-- ascending positions are below k, and none stands twice
+pub ascending-facts : (k : ℕ) (ps : List ℕ) → Ascending k ps → All (λ p. p < k) ps × Distinct ps
+ascending-facts k ps a = let f = rising-facts k 0 ps (fit-test k ps .1 a) in (f .0, f .1)
 
 -- an accepted table is self-orthogonal
 pub accepted-table : (k : ℕ) → zero < k → (ps : List ℕ) → positionsFit k 0 ps ≡ true → T (allDifferent (differencesBy k ps ps)) → TableLaws k ps
@@ -175,9 +201,9 @@ orthogonal-test c = (
 )
 
 -- and so do the differences of positions
-pub orthogonal-differences : (c : Code) → zero < c .k → positionsFit (c .k) 0 (c .positions) ≡ true → SelfOrthogonal c ↔ (allDifferent (differences c) ≡ true)
+pub orthogonal-differences : (c : Code) → zero < c .k → Ascending (c .k) (c .positions) → SelfOrthogonal c ↔ (allDifferent (differences c) ≡ true)
 unfolding shared
-orthogonal-differences c pos r = (
-  λ o. is-true (allDifferent (differences c)) (refused-table (c .k) pos (c .positions) (rising-facts (c .k) 0 (c .positions) r .0) o),
-  λ e. once-cross (c .k) pos (c .positions) (accepted-table (c .k) pos (c .positions) r (subst T (sym e) tt)),
+orthogonal-differences c pos a = (
+  λ o. is-true (allDifferent (differences c)) (refused-table (c .k) pos (c .positions) (ascending-facts (c .k) (c .positions) a .0) o),
+  λ e. once-cross (c .k) pos (c .positions) (accepted-table (c .k) pos (c .positions) (fit-test (c .k) (c .positions) .1 a) (subst T (sym e) tt)),
 )

@@ -6,8 +6,6 @@ use native.Mathlib.Numerals.{add-one}
 use native.Mathlib.Omega.{arith}
 use lib.ListN.{length, getD, drop}
 use Rattle.model.specs.Symbols.{addEach}
-use Rattle.theory.specs.Answers.{position-below}
-use Rattle.theory.specs.Tables.{rising-next}
 use Rattle.rows.specs.Rows.{row}
 use Rattle.page.specs.Checks.{addRows, rows-turn, rows-two, rows-end, Sums, sums-more}
 use Rattle.page.proofs.add_rows.Statement.{statement}
@@ -21,7 +19,7 @@ abbrev μ-loop : tie.MeasureT-loop
 μ-loop q positions «data» sums₀ n₀ sums n = length positions - n
 
 loop-holds : tie.Need-loop-holds Inv-loop μ-loop
-loop-holds c = let b = c .before .before .before in (b .pre .0 .J-low, b .pre .2, refl)
+loop-holds c = let b = c .before .before .before in (b .pre .2, b .pre .5, refl)
 
 add-loop : tie.Need-add-loop Inv-loop μ-loop
 add-loop c = omega arith
@@ -52,15 +50,14 @@ add-two-rows-requires c κs =
     let i = c .before .before .before .before .loop in
     let b = c .before .before .before .before .before .before .before .before in
     let ps : List ℕ = b .args .positions .now in
-    let l = b .pre .0 in
-    let up : getD ps (i .n) 0 < getD ps (i .n + 1) 0 = rw (add-one (i .n)) (rising-next _ 0 ps (l .rising) (i .n) (omega arith)) in (
-      omega (arith, l .q-low),
-      l .q-high,
+    let up : getD ps (i .n) 0 < getD ps (i .n + 1) 0 = rw (add-one (i .n)) (b .pre .3 .above (i .n) (omega arith)) in (
+      b .pre .0,
+      b .pre .1,
       i .inv .1 .sized,
       omega (arith, up),
-      omega (arith, up, position-below _ l (i .n + 1) (omega arith)),
+      omega (arith, up, b .pre .3 .below (i .n + 1) (omega arith)),
       i .inv .1 .low,
-      b .pre .1,
+      b .pre .4,
     )
 
 add-n : tie.Need-add-n Inv-loop μ-loop
@@ -78,7 +75,7 @@ loop-again c =
     let u : List ℕ = b .args .«data» .now in
     let first : List ℕ = row (getD ps (i .n) 0) u in
     let second : List ℕ = row (getD ps (i .n + 1) 0) u in
-    let more = sums-more q (omega (arith, b .pre .0 .q-low)) u in
+    let more = sums-more q (omega (arith, b .pre .0)) u in
     let e = c .before .before .add-two-rows .ensures in (
       omega arith,
       subst (Sums q u) (sym e) (more (addEach q (i .sums) first) second (more (i .sums) first (i .inv .1))),
@@ -98,8 +95,7 @@ add-row-requires : tie.Need-add-row-requires Inv-loop μ-loop
 add-row-requires c κs =
     let i = c .before .before .before .before .loop in
     let b = c .before .before .before .before .before .before .before .before in
-    let l = b .pre .0 in
-    (omega (arith, l .q-low), l .q-high, i .inv .1 .sized, position-below _ l (i .n) (omega arith), i .inv .1 .low, b .pre .1)
+    (b .pre .0, b .pre .1, i .inv .1 .sized, b .pre .3 .below (i .n) (omega arith), i .inv .1 .low, b .pre .4)
 
 same-length : tie.Need-same-length Inv-loop μ-loop
 same-length c = omega arith

@@ -1,14 +1,14 @@
--- `page::syndrome` meets its contract.
-use mathlib.Core.Path.{sym, _∙_, ap, subst}
-use mathlib.Core.Bool.{Bool}
-use Prim.Native.Nat.{ℕ, _+_}
-use native.Mathlib.Omega.{arith}
-use lib.ListN.{length}
-use Rattle.model.specs.Code.{codeOf, syndrome}
-use Rattle.model.specs.Calls.{firstThatApplies, pageTests, syndromeAnswer, syndromeOutcome}
-use Rattle.theory.specs.Answers.{Limits}
-use Rattle.page.specs.Outcomes.{written-left, written-done, accepted-call}
+-- `syndrome`: refused, S is as it was lent; done, it is the syndrome of the page.
 use borrow.Author.Needs.{needs}
+use mathlib.Core.Path.{_≡_, sym, _∙_}
+use Prim.Native.Nat.{_+_}
+use lib.ListN.{length}
+use Rattle.model.specs.Calls.{syndromeAnswer, syndromeOutcome}
+use Rattle.model.specs.Code.{codeOf}
+use Rattle.theory.specs.Codes.{ByteCode}
+use Rattle.theory.specs.Outcomes.{left-as-lent, left-as-done}
+use Rattle.theory.specs.Steps.{SymbolsBelow}
+use Rattle.page.specs.Calls.{number-by, taken}
 use Rattle.page.proofs.syndrome.Statement.{statement}
 use Rattle.page.proofs.syndrome.Tie as tie
 
@@ -21,36 +21,42 @@ two-fit-requires c κs = search needs
 page-answer-requires : tie.Need-page-answer-requires
 page-answer-requires c κs = search needs
 
+-- the number returned is syndrome's
+number : (p : tie.After-page-answer)
+    → let a = p .before .before .before .before .before .args in
+    p .page-answer .result ≡ syndromeAnswer (codeOf (a .q) (a .k) (a .positions .now)) (a .page .now) (length (a .s .now))
+unfolding syndromeAnswer
+number p =
+    let a = p .before .before .before .before .before .args in
+    number-by (codeOf (a .q) (a .k) (a .positions .now)) (a .page .now) (a .k + a .k) (length (a .s .now)) (a .k) _ (p .before .two-fit .ensures) _
+    (p .page-answer .ensures)
+
+-- what it works on where it is not refused
+works : (c : tie.Else1)
+    → let a = c .before .before .before .before .before .before .args in
+    ByteCode (codeOf (a .q) (a .k) (a .positions .now)) × SymbolsBelow (a .q) (a .k + a .k) (a .page .now) × (length (a .s .now) ≡ a .k)
+works c =
+    let p = c .before in
+    let a = p .before .before .before .before .before .args in
+    taken (codeOf (a .q) (a .k) (a .positions .now)) (a .page .now) (a .k + a .k) (length (a .s .now)) (a .k) _ (p .before .two-fit .ensures) _
+    (p .page-answer .ensures) (c .if1 .left)
+
 returns : tie.Need-returns
-unfolding syndromeOutcome syndromeAnswer
-returns c =
-    let a = c .before .before .before .before .before .before .args in
-    written-left _ _ _ _ (c .before .page-answer .ensures ∙ ap (λ (b : Bool). firstThatApplies (pageTests (codeOf (a .q) (a .k) (a .positions .now)) b (a .page .now))) (c .before .before .two-fit .ensures))
-    (c .if1 .taken)
+unfolding syndromeOutcome
+returns c = left-as-lent _ _ _ _ (number (c .before)) (c .if1 .taken)
 
 write-syndrome-requires : tie.Need-write-syndrome-requires
-write-syndrome-requires c κs =
-    let a = c .before .before .before .before .before .before .before .args in
-    let f = accepted-call (a .q) (a .k) (a .positions .now) (a .page .now) _ (length (a .page .now)) (a .k + a .k) (length (a .s .now)) (a .k) _
-    (c .before .before .page-answer .ensures) (c .before .if1 .left)
-    (c .before .before .before .two-fit .ensures) in
-    (subst (λ (k : ℕ). Limits (codeOf (a .q) k (a .positions .now))) (sym (f .3)) (f .0), f .1, omega (arith, f .2, f .3))
+write-syndrome-requires c κs = works (c .before)
 
 same-length : tie.Need-same-length
 same-length c = search needs
 
 returns-2 : tie.Need-returns-2
-unfolding syndromeOutcome syndromeAnswer
+unfolding syndromeOutcome
 returns-2 c =
-    let a = c .before .before .before .before .before .before .before .before .before .before .args in
-    let p = c .before .before .before .before .before in
-    let f = accepted-call (a .q) (a .k) (a .positions .now) (a .page .now) _ (length (a .page .now)) (a .k + a .k) (length (a .s .now)) (a .k) _
-    (p .page-answer .ensures) (c .before .before .before .before .if1 .left)
-    (p .before .two-fit .ensures) in
-    written-done _ _ _ _
-    (sym (c .before .before .before .before .if1 .left) ∙ p .page-answer .ensures
-    ∙ ap (λ (b : Bool). firstThatApplies (pageTests (codeOf (a .q) (a .k) (a .positions .now)) b (a .page .now))) (p .before .two-fit .ensures))
-    (c .before .before .write-syndrome .ensures ∙ ap (λ (k : ℕ). syndrome (codeOf (a .q) k (a .positions .now)) (a .page .now)) (f .3))
+    let w = c .before .before in
+    let left = w .before .before in
+    left-as-done _ _ _ _ (sym (left .if1 .left) ∙ number (left .before)) (w .write-syndrome .ensures)
 
 pub syndrome-spec : {M : Type 1} → statement M
 syndrome-spec =

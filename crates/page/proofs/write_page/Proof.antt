@@ -1,11 +1,11 @@
--- `page::write_page` meets its contract.
-use mathlib.Core.Path.{sym}
+-- `write_page`: the data is copied to the front of the page, its checks are written behind it.
+use borrow.Author.Needs.{needs}
+use mathlib.Core.Path.{sym, _∙_}
 use native.Mathlib.Omega.{arith}
-use lib.ListN.{length, drop}
+use lib.ListN.{length, drop, length-append}
+use lib.Seq.{length-take-le}
 use Rattle.model.specs.Code.{codeWord}
 use Rattle.page.specs.Checks.{front-written}
-use lib.Seq.{length-take-le}
-use borrow.Author.Needs.{needs}
 use Rattle.page.proofs.write_page.Statement.{statement}
 use Rattle.page.proofs.write_page.Tie as tie
 
@@ -15,12 +15,12 @@ slice-relend-prefix-copy-into c = search needs
 slice-aggregate-copy-into : tie.Need-slice-aggregate-copy-into
 slice-aggregate-copy-into c =
     let a = c .before .before .before .before .args in
-    sym (length-take-le (length (a .«data» .now)) (a .page .now) (omega arith))
+    sym (length-take-le (a .code .k) (a .page .now) (omega arith))
 
 copy-into-requires : tie.Need-copy-into-requires
 copy-into-requires c κs =
-    let a = c .before .before .before .before .args in
-    length-take-le (length (a .«data» .now)) (a .page .now) (omega arith)
+    let b = c .before .before .before .before in
+    length-take-le (b .args .code .k) (b .args .page .now) (omega arith) ∙ sym (b .pre .1 .len)
 
 sub-write-checks : tie.Need-sub-write-checks
 sub-write-checks c = search needs
@@ -40,9 +40,12 @@ same-length c = search needs
 returns : tie.Need-returns
 unfolding codeWord
 returns c =
-    let a = c .before .before .before .before .before .before .before .before .before .before .before .args in
-    front-written (a .«data» .now) (c .before .before .before .before .before .before .copy-into .last .0) (drop (length (a .«data» .now)) (a .page .now)) _ _
-    (c .before .before .before .before .before .before .copy-into .ensures) (c .before .before .write-checks .ensures)
+    let w = c .before .before in
+    let i = w .before .before .before .before in
+    let b = i .before .before .before .before .before in
+    let a = b .args in
+    front-written (a .code .k) (a .«data» .now) (i .copy-into .last .0) (drop (a .code .k) (a .page .now)) _ _
+    (b .pre .1 .len) (i .copy-into .ensures) (w .write-checks .ensures)
 
 pub write-page-spec : {M : Type 1} → statement M
 write-page-spec =

@@ -1,7 +1,7 @@
--- `page::two_fit` meets its contract.
+-- `two_fit` is the two comparisons, the second where the first holds.
 use borrow.Author.Tests.{eq-eqb, ne-eqb}
-use Rattle.page.proofs.two_fit.Statement.{statement}
-use Rattle.page.proofs.two_fit.Tie as tie
+use Rattle.answers.proofs.two_fit.Statement.{statement}
+use Rattle.answers.proofs.two_fit.Tie as tie
 
 returns : tie.Need-returns
 returns c = simp (ne-eqb _ _ (c .if1 .taken))

@@ -1,0 +1,90 @@
+// The tests of the calls, walked in order: the lengths of lent buffers, the tests of a call that reads symbols, the tests of thresholds.
+use params::Params;
+ghost use mathlib.Core.Path.{_≡_};
+ghost use mathlib.Core.Bool.{_&&_};
+ghost use Prim.Native.Nat.{_+_, _≤_};
+ghost use lib.Dec.{eqb};
+ghost use Rattle.model.specs.Calls.{firstThatApplies, pageTests, thresholdTests, decodeAnswer};
+ghost use Rattle.params.specs.Codes.{codeBy};
+
+// Two lengths are as a call needs them.
+pub fn two_fit(a: usize, m: usize, b: usize, n: usize) -> bool
+    ensures { λ r. ⌜ r ≡ (eqb a m && eqb b n) ⌝ }
+{
+    if a != m {
+        return false;
+    }
+    b == n
+}
+
+// The lengths of the page and of the three lent buffers are as decode needs them, and so are the buffers that only one form of the call lends.
+pub fn decode_fits(
+    others: bool,
+    code: Params,
+    page: usize,
+    result: usize,
+    syndrome: usize,
+    difference: usize,
+) -> bool
+    requires { ⌜ code .k ≤ 4294967295 ⌝ }
+    ensures { λ r. ⌜ r ≡ (others && (eqb page (code .k + code .k) && (eqb result (code .k) && (eqb syndrome (code .k) && eqb difference (code .k))))) ⌝ }
+{
+    if !others {
+        return false;
+    }
+    let k = code.k;
+    if page != k + k {
+        return false;
+    }
+    if result != k {
+        return false;
+    }
+    two_fit(syndrome, k, difference, k)
+}
+
+// Tests 1 to 7, of a call whose lent buffers fit or not and whose input is read: the number of the first that applies, or 0.
+pub fn page_answer(code: Params, positions: &[u16], fits: bool, input: &[u8]) -> u32
+    ensures { λ r. ⌜ r ≡ firstThatApplies (pageTests (codeBy code (now (positions .entry))) fits (now (input .entry))) ⌝ }
+{
+    let number = table::table_answer(code, positions);
+    if number != 0 {
+        return number;
+    }
+    if !fits {
+        return 6;
+    }
+    if !slices::all_below(code.q, input) {
+        return 7;
+    }
+    0
+}
+
+// Tests 8 and 9.
+pub fn threshold_answer(thresholds: &[u8]) -> u32
+    ensures { λ r. ⌜ r ≡ firstThatApplies (thresholdTests (now (thresholds .entry))) ⌝ }
+{
+    if !table::within(1, 64, thresholds.len()) {
+        return 8;
+    }
+    if !slices::all_below(33, thresholds) {
+        return 9;
+    }
+    0
+}
+
+// Tests 1 to 9.
+pub fn decode_answer(
+    code: Params,
+    positions: &[u16],
+    fits: bool,
+    page: &[u8],
+    thresholds: &[u8],
+) -> u32
+    ensures { λ r. ⌜ r ≡ decodeAnswer (codeBy code (now (positions .entry))) fits (now (page .entry)) (now (thresholds .entry)) ⌝ }
+{
+    let number = page_answer(code, positions, fits, page);
+    if number != 0 {
+        return number;
+    }
+    threshold_answer(thresholds)
+}

@@ -1,0 +1,34 @@
+-- What the C calls read and write as bytes, low byte first: the positions of a table, and the counts of a decode.
+use mathlib.Core.Bool.{_&&_}
+use mathlib.Core.List.{List, [], _∷_, _++_}
+use Prim.Native.Nat.{ℕ, _+_, _*_, _/_, _%_}
+use lib.Dec.{eqb}
+use lib.ListN.{length, getD}
+use Rattle.model.specs.Symbols.{choose, tabulate}
+use Rattle.model.specs.Code.{Code}
+use Rattle.model.specs.Decoder.{State, Counts, decodedState, decodedCounts}
+use Rattle.model.specs.Calls.{Outcome, outcome, Decoded, decodeFits, decodeAnswer}
+
+-- the two-byte number i of a byte string
+abbrev pub positionAt : List ℕ → ℕ → ℕ
+positionAt table i = getD table (i + i) 0 + 256 * getD table (i + i + 1) 0
+
+-- "the table is a byte string, two bytes a position, low byte first; an odd length gets the same answer as a bad J":
+-- a byte too many leaves no position
+unfoldable pub positionsOf : List ℕ → List ℕ
+positionsOf table = choose (eqb (length table % 2) 0) (tabulate (length table / 2) (positionAt table)) []
+
+-- the four bytes of a 32-bit number
+abbrev pub wordOf : ℕ → List ℕ
+wordOf n = n % 256 ∷ n / 256 % 256 ∷ n / 65536 % 256 ∷ n / 16777216 % 256 ∷ []
+
+-- "the counts are written into 16 bytes as four 32-bit numbers, low byte first"
+unfoldable pub bytesOf : Counts → List ℕ
+bytesOf n = wordOf (n .passes) ++ wordOf (n .changes) ++ wordOf (n .start) ++ wordOf (n .end)
+
+-- "counts 16 bytes, in the C form only": the C form of decode also lends the counts
+abbrev pub cDecodeOutcome : Code → List ℕ → List ℕ → State → List ℕ → Outcome (Decoded (List ℕ))
+cDecodeOutcome c page thresholds lent counts =
+    outcome (decodeAnswer c (eqb (length counts) 16 && decodeFits c page lent) page thresholds)
+    (record { state = decodedState c thresholds page; counts = bytesOf (decodedCounts c thresholds page) })
+    (record { state = lent; counts = counts })

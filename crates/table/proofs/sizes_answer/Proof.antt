@@ -1,0 +1,49 @@
+-- `sizes_answer` walks tests 1 to 3: a return names the tests passed on the way to it.
+use borrow.Author.Needs.{needs}
+use borrow.Author.Tests.{not-true, not-false}
+use mathlib.Core.Path.{sym, _∙_}
+use Rattle.model.specs.Calls.{sizeTests}
+use Rattle.theory.specs.Answers.{refused-by, passed-by, nothing-applies}
+use Rattle.table.proofs.sizes_answer.Statement.{statement}
+use Rattle.table.proofs.sizes_answer.Tie as tie
+
+within-requires : tie.Need-within-requires
+within-requires c κs = search needs
+
+returns : tie.Need-returns
+unfolding sizeTests
+returns c = sym (refused-by 1 _ _ (sym (c .before .within .ensures) ∙ not-true _ (c .if1 .taken)))
+
+within-requires-2 : tie.Need-within-requires-2
+within-requires-2 c κs = search needs
+
+returns-2 : tie.Need-returns-2
+unfolding sizeTests
+returns-2 c =
+    let one = c .before .before in
+    sym (passed-by 1 _ _ (sym (one .before .within .ensures) ∙ not-false _ (one .if1 .left)) ∙ refused-by 2 _ _ (sym (c .before .within2 .ensures) ∙ not-true _ (c .if2 .taken)))
+
+within-requires-3 : tie.Need-within-requires-3
+within-requires-3 c κs = search needs
+
+returns-3 : tie.Need-returns-3
+unfolding sizeTests
+returns-3 c =
+    let two = c .before .before in
+    let one = two .before .before in
+    sym (passed-by 1 _ _ (sym (one .before .within .ensures) ∙ not-false _ (one .if1 .left))
+    ∙ passed-by 2 _ _ (sym (two .before .within2 .ensures) ∙ not-false _ (two .if2 .left))
+    ∙ refused-by 3 _ _ (sym (c .before .within3 .ensures) ∙ not-true _ (c .if3 .taken)))
+
+returns-4 : tie.Need-returns-4
+unfolding sizeTests
+returns-4 c =
+    let two = c .before .before in
+    let one = two .before .before in
+    sym (passed-by 1 _ _ (sym (one .before .within .ensures) ∙ not-false _ (one .if1 .left))
+    ∙ passed-by 2 _ _ (sym (two .before .within2 .ensures) ∙ not-false _ (two .if2 .left))
+    ∙ passed-by 3 _ _ (sym (c .before .within3 .ensures) ∙ not-false _ (c .if3 .left))
+    ∙ nothing-applies)
+
+pub sizes-answer-spec : {M : Type 1} → statement M
+sizes-answer-spec = tie.close (tie.spec within-requires returns within-requires-2 returns-2 within-requires-3 returns-3 returns-4)

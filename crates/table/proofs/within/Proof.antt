@@ -1,0 +1,20 @@
+-- `within` is the two comparisons of its definition.
+use mathlib.Core.Path.{sym, _∙_}
+use mathlib.Core.Bool.{_&&_}
+use native.Mathlib.Omega.{arith}
+use lib.Dec.{leb}
+use borrow.Author.Tests.{le-leb}
+use Rattle.model.specs.Calls.{within}
+use Rattle.theory.specs.Answers.{within-below}
+use Rattle.table.proofs.within.Statement.{statement}
+use Rattle.table.proofs.within.Tie as tie
+
+returns : tie.Need-returns
+returns c = let a = c .before .args in sym (within-below (a .low) (a .high) (a .x) (c .if1 .taken))
+
+returns-2 : tie.Need-returns-2
+unfolding within
+returns-2 c = let a = c .before .args in simp (le-leb (a .low) (a .x) (omega arith))
+
+pub within-spec : {M : Type 1} → statement M
+within-spec = tie.close (tie.spec returns returns-2)
