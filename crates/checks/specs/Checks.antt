@@ -7,27 +7,35 @@ use native.Mathlib.Numerals.{add-one}
 use native.Mathlib.Omega.{arith}
 use lib.ListN.{length, getD, set, take, length-set}
 use lib.Seq.{take-suc-set, take-all}
-use Rattle.model.specs.Code.{Code, checkCount, checksBy}
+use Rattle.model.specs.Code.{Code, checkCount, checksEach, checksBy, checksOf}
+use Rattle.model.specs.Limits.{TableLimits}
 use Rattle.model.specs.Symbols.{sub, same, count, Below, symbolsAt, subtractAt}
 use Rattle.theory.specs.Counting.{count-nil, count-cons}
 use Rattle.theory.specs.Steps.{below-subtractAt}
 use Rattle.theory.specs.Tables.{count-append}
 use Rattle.theory.specs.Turns.{symbolsAt-turn, subtractAt-none, subtractAt-turn}
 
--- a code of at most 4096 checks, whose table has at most 32 positions below their number, and a syndrome of that many symbols
+-- a table within its limits, and a syndrome of as many symbols as there are checks
 pub record AtChecks (c : Code) (s : List ℕ) : Type 0 where
-  pub size : checkCount c ≤ 4096
+  pub table : TableLimits c
   pub len : length s ≡ checkCount c
-  pub few : length (c .positions) ≤ 32
-  pub below : (i : ℕ) → i < length (c .positions) → getD (c .positions) i 0 < checkCount c
 
--- another syndrome of that length is at the checks too
-pub at-checks-of : {c : Code} {s : List ℕ} → AtChecks c s → (t : List ℕ) → length t ≡ checkCount c → AtChecks c t
-at-checks-of f t e = record { size = f .size; len = e; few = f .few; below = f .below }
+-- the estimates of data symbol j: its own difference, and the syndrome at its checks
+abbrev pub estimatesAt : Code → ℕ → ℕ → List ℕ → List ℕ
+estimatesAt c j own s = own ∷ symbolsAt s (checksOf c j)
 
--- a number modulo the number of checks is a place in the syndrome
-pub check-inside : {c : Code} {s : List ℕ} → AtChecks c s → (a n : ℕ) → a ≡ n % checkCount c → 0 < checkCount c → a < length s
-check-inside {c} f a n e pos = omega (arith, f .len, mod-lt n {m = checkCount c} pos)
+module _ {c : Code} {s : List ℕ} (f : AtChecks c s) where
+  -- the same of another syndrome of that length
+  pub at-checks-of : (t : List ℕ) → length t ≡ length s → AtChecks c t
+  at-checks-of t e = record { table = f .table; len = e ∙ f .len }
+
+  -- what a check by a position, or a data symbol by it, needs
+  pub by-position : (j i : ℕ) → j < c .k → i < checksEach c → (c .k ≤ 4096) × (j < c .k) × (getD (c .positions) i 0 < c .k)
+  by-position j i h l = (f .table .k-high, h, f .table .ascending .below i l)
+
+  -- a number modulo the number of checks is a place in the syndrome
+  pub check-inside : (a n : ℕ) → a ≡ n % checkCount c → a < length s
+  check-inside a n e = omega (arith, f .len, mod-lt n {m = checkCount c} (f .table .k-low))
 
 -- how often v stands at the checks, where none is passed and by one check more
 pub count-none-at : (v : ℕ) (s : List ℕ) (k : ℕ) (ps : List ℕ) (j : ℕ) → count v (symbolsAt s (checksBy k (take 0 ps) j)) ≡ 0

@@ -1,13 +1,12 @@
 // A data symbol's checks: which they are, the estimates and counts that the syndrome gives there, and a subtraction at them.
 use params::Params;
 ghost use mathlib.Core.Path.{_≡_};
-ghost use mathlib.Core.List.{_∷_};
 ghost use Prim.Native.Nat.{_+_, _-_, _%_, _<_, _≤_};
 ghost use lib.ListN.{length};
 ghost use Rattle.model.specs.Code.{dataCount, checksOf};
 ghost use Rattle.model.specs.Symbols.{Below, count, symbolsAt, subtractAt};
 ghost use Rattle.params.specs.Codes.{codeBy};
-ghost use Rattle.checks.specs.Checks.{AtChecks};
+ghost use Rattle.checks.specs.Checks.{AtChecks, estimatesAt};
 
 // a modulo k, by one comparison.
 fn wrapped(k: usize, a: usize) -> usize
@@ -38,7 +37,7 @@ pub fn gather(code: Params, positions: &[u16], j: usize, own: u8, s: &[u8], es: 
     requires { ⌜ AtChecks (codeBy code (now positions)) (now s)
         × (j < dataCount (codeBy code (now positions)))
         × (length (now es) ≡ length (now positions) + 1) ⌝ }
-    ensures { λ _. ⌜ now (es .exit) ≡ own ∷ symbolsAt (now (s .entry)) (checksOf (codeBy code (now (positions .entry))) j) ⌝ }
+    ensures { λ _. ⌜ now (es .exit) ≡ estimatesAt (codeBy code (now (positions .entry))) j own (now (s .entry)) ⌝ }
 {
     es[0] = own;
     let mut i = 0;

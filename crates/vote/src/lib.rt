@@ -4,8 +4,8 @@ ghost use Prim.Native.Nat.{_<_, _≤_, max};
 ghost use lib.Dec.{eqb, ltb};
 ghost use lib.ListN.{length};
 ghost use Rattle.model.specs.Symbols.{choose, count};
-ghost use Rattle.model.specs.Vote.{goesBefore, leader, leadCount, otherCount, nextCount, zeroCount};
-ghost use Rattle.vote.specs.Leading.{leadOf};
+ghost use Rattle.model.specs.Vote.{goesBefore, leader, leadCount, otherCount};
+ghost use Rattle.vote.specs.Leading.{leadOf, voteOf};
 
 // How often v stands among the estimates.
 fn count_equal(es: &[u8], v: u8) -> u8
@@ -103,8 +103,7 @@ pub struct Vote {
 // The vote over 2 to 33 estimates: each is a candidate, and its count is taken over all of them.
 pub fn vote_over(es: &[u8]) -> Vote
     requires { ⌜ (2 ≤ length (now es)) × (length (now es) ≤ 33) ⌝ }
-    ensures { λ r. ⌜ r
-        ≡ record { leader = leader (now (es .entry)); lead = leadCount (now (es .entry)); next = nextCount (now (es .entry)); zeros = zeroCount (now (es .entry)) } ⌝ }
+    ensures { λ r. ⌜ r ≡ voteOf (now (es .entry)) ⌝ }
 {
     let best = leader_of(es);
     let h = best.value;

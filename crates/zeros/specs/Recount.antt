@@ -120,7 +120,7 @@ module _ {code : Code} {s : List ℕ} {c v gained lost : ℕ} {zs₀ : List ℕ}
       let i = o .inside in
       rw (o .counted, o .loss) (
         subst (λ (n : ℕ). same 0 (getD s c 0) * count c (checksOf code y) ≤ n) (sym (zeroCounts-at code s y h)) (zeros-hold s c (omega (arith, f .len)) (checksOf code y)),
-        omega (arith, f .few, zeroCounts-below code s (length (code .positions) + 1) (omega arith) y),
+        omega (arith, f .table .J-high, zeroCounts-below code s (length (code .positions) + 1) (omega arith) y),
       )
 
   -- one turn, at data symbol (c − p) mod k
@@ -130,7 +130,7 @@ module _ {code : Code} {s : List ℕ} {c v gained lost : ℕ} {zs₀ : List ℕ}
   recount-turn {n} {zs} w h {y} e =
       let f = o .fits in
       let i : c < checkCount code = o .inside in
-      let p : getD (code .positions) n 0 < checkCount code = f .below n h in
+      let p : getD (code .positions) n 0 < checkCount code = f .table .ascending .below n h in
       let l : y < dataCount code = rw e (sub-lt (code .k) (omega arith) c (getD (code .positions) n 0)) in
       let t : times code c (n + 1) y ≡ times code c n y + 1 =
       times-turn code c n y h p i l ∙ ap (λ (z : ℕ). times code c n y + z) (same-yes y (sub (code .k) c (getD (code .positions) n 0)) e) in
@@ -141,7 +141,7 @@ module _ {code : Code} {s : List ℕ} {c v gained lost : ℕ} {zs₀ : List ℕ}
       record {
         inside = omega (arith, w .sized);
         holds = a;
-        room = omega (arith, m, b .1, mul-le-mul-right (times code c n y) g, times-few code c n y, f .few);
+        room = omega (arith, m, b .1, mul-le-mul-right (times code c n y) g, times-few code c n y, f .table .J-high);
         next = record {
           within = omega arith;
           sized = length-set zs y _ ∙ w .sized;

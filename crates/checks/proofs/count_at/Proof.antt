@@ -8,7 +8,7 @@ use lib.ListN.{length, getD, take}
 use lib.Seq.{take-all}
 use Rattle.model.specs.Code.{checksBy}
 use Rattle.model.specs.Symbols.{same, count, symbolsAt}
-use Rattle.checks.specs.Checks.{check-inside, count-none-at, count-turn-at}
+use Rattle.checks.specs.Checks.{by-position, check-inside, count-none-at, count-turn-at}
 use Rattle.checks.proofs.count_at.Statement.{statement}
 use Rattle.checks.proofs.count_at.Tie as tie
 
@@ -33,18 +33,18 @@ check-of-requires : tie.Need-check-of-requires Inv-loop μ-loop
 check-of-requires c κs =
     let l = c .before .before in
     let p = l .before .before .before .pre in
-    (p .0 .size, p .1, p .0 .below (l .loop .i) (omega arith))
+    by-position (p .0) _ _ (p .1) (omega arith)
 
 shared-slice-read-equal : tie.Need-shared-slice-read-equal Inv-loop μ-loop
 shared-slice-read-equal c =
     let p = c .before .before .before .before .before .before .before .pre in
-    check-inside (p .0) _ _ (c .before .check-of .ensures) (omega (arith, p .1))
+    check-inside (p .0) _ _ (c .before .check-of .ensures)
 
 equal-requires : tie.Need-equal-requires Inv-loop μ-loop
 equal-requires c κs = search needs
 
 add-n : tie.Need-add-n Inv-loop μ-loop
-add-n c = let p = c .before .before .before .before .before .before .before .before .pre in omega (arith, p .0 .few)
+add-n c = let p = c .before .before .before .before .before .before .before .before .pre in omega (arith, p .0 .table .J-high)
 
 add-i : tie.Need-add-i Inv-loop μ-loop
 add-i c = omega arith

@@ -8,7 +8,7 @@ use lib.ListN.{length, take, length-set}
 use lib.Seq.{take-all}
 use Rattle.model.specs.Code.{checksBy}
 use Rattle.model.specs.Symbols.{symbolsAt}
-use Rattle.checks.specs.Checks.{check-inside, gather-none, gather-turn}
+use Rattle.checks.specs.Checks.{by-position, check-inside, gather-none, gather-turn}
 use Rattle.checks.proofs.gather.Statement.{statement}
 use Rattle.checks.proofs.gather.Tie as tie
 
@@ -37,7 +37,7 @@ check-of-requires : tie.Need-check-of-requires Inv-loop μ-loop
 check-of-requires c κs =
     let l = c .before .before in
     let p = l .before .before .before .before .pre in
-    (p .0 .size, p .1, p .0 .below (l .loop .i) (omega arith))
+    by-position (p .0) _ _ (p .1) (omega arith)
 
 add-i : tie.Need-add-i Inv-loop μ-loop
 add-i c = omega arith
@@ -45,7 +45,7 @@ add-i c = omega arith
 shared-slice-read-es : tie.Need-shared-slice-read-es Inv-loop μ-loop
 shared-slice-read-es c =
     let p = c .before .before .before .before .before .before .before .before .pre in
-    check-inside (p .0) _ _ (c .before .check-of .ensures) (omega (arith, p .1))
+    check-inside (p .0) _ _ (c .before .check-of .ensures)
 
 slice-write-es-2 : tie.Need-slice-write-es-2 Inv-loop μ-loop
 slice-write-es-2 c = omega arith

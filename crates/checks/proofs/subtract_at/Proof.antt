@@ -5,7 +5,7 @@ use native.Mathlib.Omega.{arith}
 use borrow.Author.Needs.{needs}
 use lib.ListN.{length, getD}
 use Rattle.model.specs.Symbols.{sub}
-use Rattle.checks.specs.Checks.{at-checks-of, check-inside, Subtracted, subtract-none, subtract-below, subtract-turn, subtract-all}
+use Rattle.checks.specs.Checks.{at-checks-of, by-position, check-inside, Subtracted, subtract-none, subtract-below, subtract-turn, subtract-all}
 use Rattle.checks.proofs.subtract_at.Statement.{statement}
 use Rattle.checks.proofs.subtract_at.Tie as tie
 
@@ -31,13 +31,13 @@ check-of-requires : tie.Need-check-of-requires Inv-loop μ-loop
 check-of-requires c κs =
     let l = c .before .before in
     let p = l .before .before .before .before .pre in
-    (p .0 .size, p .1, p .0 .below (l .loop .i) (omega arith))
+    by-position (p .0) _ _ (p .1) (omega arith)
 
 slice-read-sub-mod : tie.Need-slice-read-sub-mod Inv-loop μ-loop
 slice-read-sub-mod c =
     let l = c .before .before .before .before in
     let p = l .before .before .before .before .pre in
-    check-inside (at-checks-of (p .0) (l .loop .s) (l .loop .inv .sized ∙ p .0 .len)) _ _ (c .before .check-of .ensures) (omega (arith, p .1))
+    check-inside (at-checks-of (p .0) (l .loop .s) (l .loop .inv .sized)) _ _ (c .before .check-of .ensures)
 
 sub-mod-requires : tie.Need-sub-mod-requires Inv-loop μ-loop
 sub-mod-requires c κs =

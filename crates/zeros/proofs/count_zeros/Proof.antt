@@ -36,7 +36,7 @@ shared-slice-read-add-zeros-from : tie.Need-shared-slice-read-add-zeros-from Inv
 shared-slice-read-add-zeros-from c = omega arith
 
 cast-add-zeros-from : tie.Need-cast-add-zeros-from Inv-loop μ-loop
-cast-add-zeros-from c = omega (arith, c .before .before .before .before .before .before .before .before .before .before .pre .0 .below (c .before .before .loop .i) (omega arith))
+cast-add-zeros-from c = omega (arith, c .before .before .before .before .before .before .before .before .before .before .pre .0 .table .ascending .below (c .before .before .loop .i) (omega arith))
 
 add-zeros-from-requires : tie.Need-add-zeros-from-requires Inv-loop μ-loop
 add-zeros-from-requires c κs =
@@ -45,8 +45,8 @@ add-zeros-from-requires c κs =
     let done = codeBy (b .args .code) (take (l .i) (b .args .positions .now)) in (
       ap length (l .inv .1) ∙ length-zeroCounts done (b .args .s .now),
       b .pre .0 .len,
-      b .pre .0 .below (l .i) (omega arith),
-      rw (l .inv .1) (zeroCounts-below done (b .args .s .now) 255 (omega (arith, b .pre .0 .few, length-take (l .i) (b .args .positions .now)))),
+      b .pre .0 .table .ascending .below (l .i) (omega arith),
+      rw (l .inv .1) (zeroCounts-below done (b .args .s .now) 255 (omega (arith, b .pre .0 .table .J-high, length-take (l .i) (b .args .positions .now)))),
     )
 
 add-i : tie.Need-add-i Inv-loop μ-loop

@@ -6,7 +6,7 @@ use borrow.Author.Needs.{needs}
 use lib.ListN.{length, getD}
 use Rattle.model.specs.Symbols.{sub}
 use Rattle.params.specs.Codes.{codeBy}
-use Rattle.checks.specs.Checks.{AtChecks, at-checks-of, check-inside, Subtracted, subtract-none, subtract-below, subtract-turn, subtract-all}
+use Rattle.checks.specs.Checks.{AtChecks, at-checks-of, by-position, check-inside, Subtracted, subtract-none, subtract-below, subtract-turn, subtract-all}
 use Rattle.zeros.specs.Counts.{zeroCounts, length-zeroCounts}
 use Rattle.zeros.proofs.subtract_checks.Statement.{statement}
 use Rattle.zeros.proofs.subtract_checks.Tie as tie
@@ -19,7 +19,7 @@ abbrev μ-loop : tie.MeasureT-loop
 
 -- the syndrome in the loop is at the checks still
 at : (c : tie.At-loop Inv-loop μ-loop) → AtChecks (codeBy (c .before .before .before .before .before .args .code) (c .before .before .before .before .before .args .positions .now)) (c .loop .s)
-at c = let f = c .before .before .before .before .before .pre .0 in at-checks-of f (c .loop .s) (c .loop .inv .0 .sized ∙ f .len)
+at c = let f = c .before .before .before .before .before .pre .0 in at-checks-of f (c .loop .s) (c .loop .inv .0 .sized)
 
 highest-requires : tie.Need-highest-requires Inv-loop μ-loop
 highest-requires c κs = omega arith
@@ -36,10 +36,10 @@ shared-slice-read-check-of c = omega arith
 check-of-requires : tie.Need-check-of-requires Inv-loop μ-loop
 check-of-requires c κs =
     let p = c .before .before .before .before .before .before .before .pre in
-    (p .0 .size, p .1, p .0 .below (c .before .before .loop .i) (omega arith))
+    by-position (p .0) _ _ (p .1) (omega arith)
 
 slice-read-sub-mod : tie.Need-slice-read-sub-mod Inv-loop μ-loop
-slice-read-sub-mod c = check-inside (at (c .before .before .before .before)) _ _ (c .before .check-of .ensures) (omega (arith, c .before .before .before .before .before .before .before .before .before .pre .1))
+slice-read-sub-mod c = check-inside (at (c .before .before .before .before)) _ _ (c .before .check-of .ensures)
 
 sub-mod-requires : tie.Need-sub-mod-requires Inv-loop μ-loop
 sub-mod-requires c κs =

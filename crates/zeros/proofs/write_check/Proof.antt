@@ -5,6 +5,7 @@ use native.Mathlib.Omega.{arith}
 use borrow.Author.Needs.{needs}
 use lib.ListN.{length, length-set}
 use Rattle.params.specs.Codes.{codeBy}
+use Rattle.checks.specs.Checks.{by-position}
 use Rattle.zeros.specs.Recount.{Recounted, Write, Turn, write-sized, recount-none, recount-turn, recount-all, recount-same}
 use Rattle.zeros.proofs.write_check.Statement.{statement}
 use Rattle.zeros.proofs.write_check.Tie as tie
@@ -59,7 +60,7 @@ shared-slice-read-symbol-of c = omega arith
 symbol-of-requires : tie.Need-symbol-of-requires Inv-loop μ-loop
 symbol-of-requires c κs =
     let p = c .before .before .before .before .before .before .before .before .before .before .pre in
-    (p .0 .size, p .1, p .0 .below (c .before .before .loop .i) (omega arith))
+    by-position (p .0) _ _ (p .1) (omega arith)
 
 slice-read-zeros : tie.Need-slice-read-zeros Inv-loop μ-loop
 slice-read-zeros c = turn c .inside
