@@ -1,4 +1,4 @@
--- `passes::decided` meets its contract.
+-- `visits::decided` meets its contract: the quick test and the vote each settle what is subtracted.
 use borrow.Author.Needs.{needs}
 use borrow.Author.Tests.{not-true}
 use mathlib.Core.Path.{sym, ap, subst, _∙_}
@@ -9,10 +9,9 @@ use lib.Dec.{T, nltb→le}
 use Rattle.model.specs.Vote.{leadCount}
 use Rattle.theory.specs.Voting.{next-le-lead}
 use Rattle.vote.specs.declared.Vote.{Vote}
-use Rattle.vote.specs.Changes.{no-change-by}
-use Rattle.passes.specs.Visits.{subtract-left, subtract-behind, subtract-leader}
-use Rattle.passes.proofs.decided.Statement.{statement}
-use Rattle.passes.proofs.decided.Tie as tie
+use Rattle.visits.specs.Decisions.{subtract-by-lead, subtract-behind, subtract-leader}
+use Rattle.visits.proofs.decided.Statement.{statement}
+use Rattle.visits.proofs.decided.Tie as tie
 
 add-lead-above : tie.Need-add-lead-above
 add-lead-above c = search needs
@@ -24,14 +23,13 @@ returns : tie.Need-returns
 returns c =
     let b = c .before .before .before in
     let a = b .args in
-    subtract-left (a .threshold) (a .es .now)
-    (no-change-by (a .threshold) (a .es .now)
+    subtract-by-lead (a .threshold) (a .es .now)
     (omega (
       arith,
       b .pre .2,
       nltb→le (a .zeros + a .threshold) (leadCount (a .es .now))
           (subst (λ (w : Bool). T (not w)) (sym (not-true (c .before .lead-above .result) (c .if1 .taken)) ∙ c .before .lead-above .ensures) tt),
-    )))
+    ))
 
 vote-over-requires : tie.Need-vote-over-requires
 vote-over-requires c κs = search needs

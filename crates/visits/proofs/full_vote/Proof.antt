@@ -1,15 +1,18 @@
--- `passes::full_vote` meets its contract: the part of the buffer that is voted on holds the estimates.
+-- `visits::full_vote` meets its contract: the part of the buffer that is voted on holds the estimates.
 use borrow.Author.Needs.{needs}
-use mathlib.Core.Path.{sym, _∙_, ap}
-use mathlib.Core.List.{List}
-use Prim.Native.Nat.{ℕ}
+use mathlib.Core.Path.{refl, sym, _∙_, ap}
+use mathlib.Core.List.{List, _++_}
+use Prim.Native.Nat.{ℕ, _+_}
 use native.Mathlib.Omega.{arith}
-use lib.ListN.{length, length-append}
+use lib.ListN.{length, take, drop, replicate, length-append}
 use lib.Seq.{length-take-le}
+use Rattle.params.specs.Codes.{codeBy}
+use Rattle.checks.specs.Checks.{estimatesAt}
 use Rattle.model.specs.Symbols.{count}
-use Rattle.passes.specs.Visits.{toSubtract, estimates-length, gathered, gathered-length, gathered-within}
-use Rattle.passes.proofs.full_vote.Statement.{statement}
-use Rattle.passes.proofs.full_vote.Tie as tie
+use Rattle.visits.specs.Decisions.{toSubtract}
+use Rattle.visits.specs.Estimates.{estimates-length, Gathered, gathered}
+use Rattle.visits.proofs.full_vote.Statement.{statement}
+use Rattle.visits.proofs.full_vote.Tie as tie
 
 add-n : tie.Need-add-n
 add-n c = search needs
@@ -18,34 +21,39 @@ array-borrow-prefix-es : tie.Need-array-borrow-prefix-es
 array-borrow-prefix-es c = search needs
 
 slice-aggregate-gather : tie.Need-slice-aggregate-gather
-slice-aggregate-gather c = sym (length-take-le _ _ (omega arith))
+slice-aggregate-gather c = sym (length-take-le _ _ (omega (arith, c .before .before .before .pre .0 .table .J-high)))
 
 gather-requires : tie.Need-gather-requires
-gather-requires c κs = (c .before .before .before .pre .0, length-take-le _ _ (omega arith))
+gather-requires c κs =
+    let p = c .before .before .before .pre in
+    (p .0, p .1, length-take-le _ _ (omega (arith, p .0 .table .J-high)))
 
 array-share-prefix-es : tie.Need-array-share-prefix-es
 array-share-prefix-es c =
     let a = c .before .before .before .before .before .args in
-    simp length-append (omega (arith, ap length (c .before .gather .ensures), estimates-length (a .own) (a .s .now) (a .k) (a .positions .now) (a .j)))
+    simp length-append (omega (arith, ap length (c .before .gather .ensures), estimates-length (codeBy (a .code) (a .positions .now)) (a .j) (a .own) (a .syndrome .now)))
+
+-- the part of the buffer that `decided` reads holds the estimates
+part : (c : tie.After-es3)
+    → Gathered (estimatesAt (codeBy (c .before .before .before .before .before .before .args .code) (c .before .before .before .before .before .before .args .positions .now)) (c .before .before .before .before .before .before .args .j) (c .before .before .before .before .before .before .args .own) (c .before .before .before .before .before .before .args .syndrome .now))
+    (take (length (c .before .before .before .before .before .before .args .positions .now) + 1)
+    (c .before .before .gather .last .1 .1 .1 .1 .1 .0 ++ drop (length (c .before .before .before .before .before .before .args .positions .now) + 1) (replicate 33 0)))
+    (length (c .before .before .before .before .before .before .args .positions .now) + 1)
+part c =
+    let b = c .before .before .before .before .before .before in
+    gathered (b .pre .0) (b .args .j) (b .args .own) _ _ _ (c .before .before .gather .ensures) refl
 
 slice-aggregate-decided : tie.Need-slice-aggregate-decided
-slice-aggregate-decided c =
-    let a = c .before .before .before .before .before .before .args in
-    sym (gathered-length _ _ _ _ (c .before .before .gather .ensures) (estimates-length (a .own) (a .s .now) (a .k) (a .positions .now) (a .j)))
+slice-aggregate-decided c = sym (part c .len)
 
 decided-requires : tie.Need-decided-requires
 decided-requires c κs =
-    let b = c .before .before .before .before .before .before in
-    let a = b .args in
-    let w = gathered-within _ _ _ _ (c .before .before .gather .ensures) (estimates-length (a .own) (a .s .now) (a .k) (a .positions .now) (a .j)) 2 33 (omega arith)
-    (omega arith) in
-    (w .0, w .1, b .pre .2 ∙ sym (ap (λ (l : List ℕ). count 0 l) (gathered _ _ _ _ (c .before .before .gather .ensures) (estimates-length (a .own) (a .s .now) (a .k) (a .positions .now) (a .j)))), b .pre .3)
+    let g = part c in
+    let p = c .before .before .before .before .before .before .pre in
+    (g .low, g .high, p .2 ∙ sym (ap (λ (l : List ℕ). count 0 l) (g .same)), p .3)
 
 returns : tie.Need-returns
-returns c =
-    let a = c .before .before .before .before .before .before .before .args in
-    c .decided .ensures ∙ ap (λ (l : List ℕ). toSubtract (a .threshold) l)
-    (gathered _ _ _ _ (c .before .before .before .gather .ensures) (estimates-length (a .own) (a .s .now) (a .k) (a .positions .now) (a .j)))
+returns c = c .decided .ensures ∙ ap (λ (l : List ℕ). toSubtract (c .before .before .before .before .before .before .before .args .threshold) l) (part (c .before) .same)
 
 pub full-vote-spec : {M : Type 1} → statement M
 full-vote-spec =

@@ -1,6 +1,5 @@
--- A decode under way: the state with its tally; visits, passes and the whole run on both, and that they are model's.
+-- The run of passes on a decode under way: as the loops go, and that it is model's.
 use mathlib.Core.Path.{_≡_, refl, ap, sym, _∙_}
-use mathlib.Core.Logic.{_≢_}
 use mathlib.Core.Bool.{Bool, true, false}
 use mathlib.Core.List.{List, [], _∷_, _++_}
 use Prim.Native.Nat.{ℕ, zero, suc, _+_, _≤_, _<_}
@@ -8,41 +7,23 @@ use native.Mathlib.Decide.{ℕ-discrete}
 use native.Mathlib.Omega.{arith}
 use native.Mathlib.Numerals.{add-one}
 use lib.Dec.{eqb}
-use lib.ListN.{length, getD, set, drop}
+use lib.ListN.{length, getD, drop}
 use lib.Seq.{drop-cons}
 use borrow.Author.Tests.{eq-eqb, ne-eqb}
-use Rattle.model.specs.Code.{Code, dataCount, checkCount, checksOf, syndrome, SelfOrthogonal}
-use Rattle.model.specs.Decoder.{State, Visit, estimates, change, changes, visit, after, changeCount, pass, passes, thresholdsRun, dataSymbols}
-use Rattle.model.specs.Symbols.{choose, sub, bit, same, tabulate, symbolsAt, subtractAt}
-use Rattle.theory.specs.Answers.{Limits, position-below}
+use Rattle.model.specs.Code.{Code, dataCount, checksOf}
+use Rattle.model.specs.Decoder.{State, Visit, changes, after, changeCount, pass, passes, thresholdsRun, dataSymbols}
+use Rattle.model.specs.Symbols.{choose, bit, tabulate}
+use Rattle.theory.specs.Codes.{code-incidence}
 use Rattle.theory.specs.Counting.{eqb-yes, eqb-no}
-use Rattle.theory.specs.Decoding.{after-append, changes-append, code-incidence}
-use Rattle.theory.specs.Falling.{visit-no, visit-yes, visit-sized}
-use Rattle.theory.specs.Steps.{Sized, below-estimates}
+use Rattle.theory.specs.Falling.{visit-sized}
+use Rattle.theory.specs.Runs.{after-append, changes-append}
 use Rattle.theory.specs.Turns.{pass-turn, pass-count-turn}
-use Rattle.passes.specs.Visits.{toSubtract, subtract-zero, subtract-some, subtract-below}
-use Rattle.vote.specs.Checks.{AtChecks}
-use Rattle.zeros.specs.Counts.{AllChecks}
-use Rattle.counts.specs.declared.Tally.{Tally}
+use Rattle.visits.specs.Progress.{Progress, counted, both, with-changes, visitOf, Ready}
+use Rattle.tally.specs.declared.Tally.{Tally}
 
--- the state and the tally
-pub record Progress : Type 0 where
-  pub state : State
-  pub tally : Tally
-
-abbrev pub progress : List ℕ → List ℕ → List ℕ → Tally → Progress
-progress r s d t = record { state = record { result = r; syndrome = s; difference = d }; tally = t }
-
--- the tally with n changes more, and with a number of passes
-abbrev pub counted : ℕ → Tally → Tally
-counted n t = record { passes = t .passes; changes = t .changes + n; start = t .start; end = t .end }
-
+-- the tally with a number of passes
 abbrev pub withPasses : ℕ → Tally → Tally
 withPasses n t = record { passes = n; changes = t .changes; start = t .start; end = t .end }
-
--- "each visit hands it back with its change added"
-unfoldable pub visitOf : Code → Visit → Progress → Progress
-visitOf c v p = record { state = visit (c .q) (checksOf c) v (p .state); tally = counted (bit (changes (checksOf c) v (p .state))) (p .tally) }
 
 -- passes with a list of thresholds, one after the other, where n passes were run before
 unfoldable pub ran : Code → ℕ → List ℕ → Progress → Progress
@@ -96,12 +77,6 @@ module _ (c : Code) (n j : ℕ) (ths : List ℕ) (p x : Progress) (h : n < lengt
   pass-go other = rw (drop-cons ths n 0, add-one, passes-go c n (getD ths n 0) (drop (suc n) ths) p (rw (← made) other), ← made)
 
 -- ---- they are model's
-
-pub both : {s t : State} {a b : Tally} → s ≡ t → a ≡ b → _≡_ {A = Progress} (record { state = s; tally = a }) (record { state = t; tally = b })
-both e f = λ i. record { state = e i; tally = f i }
-
-with-changes : (t : Tally) {a b : ℕ} → a ≡ b → _≡_ {A = Tally} (record { passes = t .passes; changes = a; start = t .start; end = t .end }) (record { passes = t .passes; changes = b; start = t .start; end = t .end })
-with-changes t e = λ i. record { passes = t .passes; changes = e i; start = t .start; end = t .end }
 
 visits-pass : (c : Code) (t n : ℕ) (p : Progress)
     → visits c t n p ≡ record {
@@ -176,12 +151,6 @@ passes-run c n (t ∷ ths) p =
 
 -- ---- what visits keep
 
--- a state that the decoder of an accepted table works on
-pub record Ready (c : Code) (st : State) : Type 0 where
-  pub limits : Limits c
-  pub orthogonal : SelfOrthogonal c
-  pub sized : Sized (c .q) (dataCount c) (checkCount c) st
-
 -- ready still, and at most n changes more
 pub record Kept (c : Code) (n : ℕ) (p x : Progress) : Type 0 where
   pub ready : Ready c (x .state)
@@ -199,58 +168,12 @@ visits-kept c t (suc n) p r =
     let v : Visit = record { symbol = n; threshold = t } in
     record {
       ready = record {
-        limits = r .limits;
-        orthogonal = r .orthogonal;
-        sized = visit-sized (code-incidence c (r .limits) (r .orthogonal)) v (visits c t n p .state) (k .ready .sized);
+        usable = r .usable;
+        bytes = r .bytes;
+        sized = visit-sized (code-incidence c (r .usable)) v (visits c t n p .state) (k .ready .sized);
       };
       few = omega (arith, k .few, bit-le (changes (checksOf c) v (visits c t n p .state)));
     }
 
 pub kept-by : (c : Code) (t n : ℕ) (p x : Progress) → Ready c (p .state) → x ≡ visits c t n p → Kept c n p x
 kept-by c t n p x r e = rw e (visits-kept c t n p r)
-
--- ---- a visit, by what the vote says to subtract
-
-pub at-checks : (c : Code) (st : State) → Ready c st → (j : ℕ) → j < dataCount c → AtChecks (c .k) (c .positions) j (st .syndrome)
-at-checks c st r j h = record {
-  symbol = h;
-  size = r .limits .k-high;
-  len = r .sized .len-syndrome;
-  few = r .limits .J-high;
-  below = position-below c (r .limits);
-}
-
-pub all-checks-of : (c : Code) (st : State) → Ready c st → AllChecks (c .k) (c .positions) (st .syndrome)
-all-checks-of c st r = record {
-  some = omega (arith, r .limits .k-low);
-  size = r .limits .k-high;
-  len = r .sized .len-syndrome;
-  few = r .limits .J-high;
-  below = position-below c (r .limits);
-}
-
--- what is subtracted is a symbol
-pub ready-subtract : (c : Code) (st : State) → Ready c st → (t j : ℕ) → toSubtract t (getD (st .difference) j 0 ∷ symbolsAt (st .syndrome) (checksOf c j)) < c .q
-unfolding estimates
-ready-subtract c st r t j =
-    let pos : 0 < c .q = omega (arith, r .limits .q-low) in
-    subtract-below (c .q) pos t (estimates (checksOf c j) j st) (below-estimates (c .q) pos (checksOf c j) j st (r .sized .in-difference) (r .sized .in-syndrome))
-
-module _ (c : Code) (v : Visit) (r s d : List ℕ) (t : Tally) where
-  pub visit-left : 0 ≡ toSubtract (v .threshold) (getD d (v .symbol) 0 ∷ symbolsAt s (checksOf c (v .symbol))) → progress r s d t ≡ visitOf c v (progress r s d t)
-  unfolding visitOf changes estimates
-  visit-left e =
-      let st : State = record { result = r; syndrome = s; difference = d } in
-      let n : changes (checksOf c) v st ≡ false = subtract-zero (v .threshold) (estimates (checksOf c (v .symbol)) (v .symbol) st) (sym e) in
-      rw (n, visit-no (c .q) (checksOf c) v st n) (both refl (with-changes t (omega arith)))
-
-  pub visit-made : (h : ℕ) → h ≡ toSubtract (v .threshold) (getD d (v .symbol) 0 ∷ symbolsAt s (checksOf c (v .symbol))) → h ≢ 0
-      → progress (set r (v .symbol) (sub (c .q) (getD r (v .symbol) 0) h)) (subtractAt (c .q) h (checksOf c (v .symbol)) s)
-      (set d (v .symbol) (sub (c .q) (getD d (v .symbol) 0) h)) (counted 1 t)
-      ≡ visitOf c v (progress r s d t)
-  unfolding visitOf changes estimates change
-  visit-made h e n =
-      let st : State = record { result = r; syndrome = s; difference = d } in
-      let f = subtract-some (v .threshold) (estimates (checksOf c (v .symbol)) (v .symbol) st) (λ z. n (e ∙ z)) in
-      let y : changes (checksOf c) v st ≡ true = f .0 in
-      rw (y, visit-yes (c .q) (checksOf c) v st y, ← (e ∙ f .1)) refl
