@@ -1,3 +1,2 @@
--- What the contracts of the visits and passes cite, and their laws.
-pub mod Visits
-pub mod Progress
+-- What the contracts of the passes cite, and their laws.
+pub mod Runs

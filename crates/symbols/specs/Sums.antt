@@ -5,7 +5,6 @@ use Prim.Native.Nat.{ℕ, _+_, _-_, _%_, _≤_, _<_}
 use native.Mathlib.Nat.{mod-lt, mod-eq-of-lt, add-mod-right, add-mod-mod}
 use native.Mathlib.Decide.{decLe}
 use native.Mathlib.Omega.{arith}
-use lib.Dec.{lit<}
 use lib.ListN.{length, getD}
 use Rattle.model.specs.Symbols.{add, tabulate, addEach}
 use Rattle.theory.specs.Distance.{length-tabulate, getD-tabulate, tabulate-ext}
@@ -23,20 +22,20 @@ pub add-above : (q a b : ℕ) → a < q → b < q → q ≤ a + b → add q a b 
 unfolding add
 add-above q a b ha hb h = by-eq q {x = a + b} {y = a + b - q + q} (omega arith) ∙ add-mod-right (a + b - q) q ∙ mod-eq-of-lt (omega arith)
 
--- the sum as bytes wrap: s is the wrapped sum, c what it has too much, and r with c added wraps to s
-pub byte-sum : (top a b r c s : ℕ) → top < 256 → a ≤ top → b ≤ top → r < 256 → s ≡ (a + b) % 256 → (r + c) % 256 ≡ s
-    → (a ≤ top - b → c ≡ 0) → (top - b < a → c ≡ (top + 1) % 256) → r ≡ add (top + 1) a b
-byte-sum top a b r c s ht ha hb hr e f yes-c no-c = elim (decLe a (top - b)) as (λ o. r ≡ add (top + 1) a b) [
+-- the sum as numbers of w values wrap: s is the wrapped sum, c what it has too much, and r with c added wraps to s
+pub wrapped-sum : (w top a b r c s : ℕ) → top < w → a ≤ top → b ≤ top → r < w → s ≡ (a + b) % w → (r + c) % w ≡ s
+    → (a ≤ top - b → c ≡ 0) → (top - b < a → c ≡ (top + 1) % w) → r ≡ add (top + 1) a b
+wrapped-sum w top a b r c s ht ha hb hr e f yes-c no-c = elim (decLe a (top - b)) as (λ o. r ≡ add (top + 1) a b) [
   | yes h ↦
       let z : c ≡ 0 = yes-c h in
-      sym (mod-eq-of-lt hr) ∙ by-eq 256 {x = r} {y = r + c} (omega arith) ∙ f ∙ e ∙ mod-eq-of-lt (omega arith) ∙ sym (add-below (top + 1) a b (omega arith))
+      sym (mod-eq-of-lt hr) ∙ by-eq w {x = r} {y = r + c} (omega arith) ∙ f ∙ e ∙ mod-eq-of-lt (omega arith) ∙ sym (add-below (top + 1) a b (omega arith))
   | no n ↦
       let m : ℕ = a + b - (top + 1) in
-      let z : c ≡ (top + 1) % 256 = no-c (omega arith) in
-      let l : c < 256 = rw z (mod-lt (top + 1) (lit< tt)) in
+      let z : c ≡ (top + 1) % w = no-c (omega arith) in
+      let l : c < w = rw z (mod-lt (top + 1) (omega arith)) in
       sym (mod-eq-of-lt hr)
-      ∙ cong-cancel 256 r m c (omega arith)
-      (f ∙ e ∙ by-eq 256 {x = a + b} {y = m + (top + 1)} (omega arith) ∙ sym (add-mod-mod m (top + 1) 256) ∙ ap (λ (x : ℕ). (m + x) % 256) (sym z))
+      ∙ cong-cancel w r m c (omega arith)
+      (f ∙ e ∙ by-eq w {x = a + b} {y = m + (top + 1)} (omega arith) ∙ sym (add-mod-mod m (top + 1) w) ∙ ap (λ (x : ℕ). (m + x) % w) (sym z))
       ∙ mod-eq-of-lt (omega arith) ∙ sym (add-above (top + 1) a b (omega arith) (omega arith) (omega arith))
 ]
 

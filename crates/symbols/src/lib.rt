@@ -1,8 +1,23 @@
-// Sums and differences of symbols modulo q, on single symbols and on whole slices.
+// Symbols modulo q: compared, added and subtracted, one by one and in whole slices.
 ghost use mathlib.Core.Path.{_≡_};
 ghost use Prim.Native.Nat.{_+_, _%_, _<_, _≤_};
 ghost use lib.ListN.{length};
-ghost use Rattle.model.specs.Symbols.{add, sub, Below, addEach, subEach};
+ghost use Rattle.model.specs.Symbols.{add, sub, same, Below, addEach, subEach};
+
+// 1 where two symbols are equal, else 0.
+pub fn equal(a: u8, b: u8) -> u8
+    ensures { λ r. ⌜ (r ≡ same a b) × (r ≤ 1) ⌝ }
+{
+    if a == b { 1 } else { 0 }
+}
+
+// The highest symbol. It stands for q where a byte is wanted, since q = 256 fits none.
+pub fn highest(q: u32) -> u8
+    requires { ⌜ (1 ≤ q) × (q ≤ 256) ⌝ }
+    ensures { λ r. ⌜ r + 1 ≡ q ⌝ }
+{
+    (q - 1) as u8
+}
 
 // What a + b has too much: nothing where a is at most what b leaves below q, else q, as a byte.
 fn carried(top: u8, a: u8, room: u8) -> u8
@@ -15,7 +30,7 @@ fn carried(top: u8, a: u8, room: u8) -> u8
     }
 }
 
-// The sum modulo top + 1, without a remainder or a branch. The highest symbol stands for q, so that q = 256 fits a byte.
+// The sum modulo top + 1, without a remainder or a branch.
 pub fn add_mod(top: u8, a: u8, b: u8) -> u8
     requires { ⌜ (a ≤ top) × (b ≤ top) ⌝ }
     ensures { λ r. ⌜ r ≡ add (top + 1) a b ⌝ }
@@ -126,7 +141,7 @@ pub fn add_into(q: u32, acc: &mut [u8], src: &[u8])
     if q == 256 {
         add_bytes(acc, src);
     } else {
-        add_symbols((q - 1) as u8, acc, src);
+        add_symbols(highest(q), acc, src);
     }
 }
 
@@ -144,7 +159,7 @@ pub fn add_two_into(q: u32, acc: &mut [u8], xs: &[u8], ys: &[u8])
     if q == 256 {
         add_two_bytes(acc, xs, ys);
     } else {
-        add_two_symbols((q - 1) as u8, acc, xs, ys);
+        add_two_symbols(highest(q), acc, xs, ys);
     }
 }
 
@@ -161,6 +176,6 @@ pub fn sub_into(q: u32, dst: &mut [u8], xs: &[u8], ys: &[u8])
     if q == 256 {
         sub_bytes(dst, xs, ys);
     } else {
-        sub_symbols((q - 1) as u8, dst, xs, ys);
+        sub_symbols(highest(q), dst, xs, ys);
     }
 }

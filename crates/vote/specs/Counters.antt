@@ -1,4 +1,4 @@
--- A counter for each value, over the estimates passed.
+-- A counter for each of w values, over the estimates passed.
 use mathlib.Core.Path.{_≡_, refl, sym, ap}
 use mathlib.Core.Bool.{true, false}
 use mathlib.Core.List.{List}
@@ -21,27 +21,27 @@ count-part : (v : ℕ) (es : List ℕ) (i : ℕ) → count v (take i es) ≤ cou
 count-part v es i = omega (arith, ap (λ (l : List ℕ). count v l) (take-append-drop i es), count-append v (take i es) (drop i es))
 
 -- the counters of the first i estimates, of which no value stands more than `bound` times
-pub record Counted (bound : ℕ) (es : List ℕ) (i : ℕ) (counters : List ℕ) : Type 0 where
-  pub sized : length counters ≡ 256
+pub record Counted (w bound : ℕ) (es : List ℕ) (i : ℕ) (counters : List ℕ) : Type 0 where
+  pub sized : length counters ≡ w
   pub counts : (v : ℕ) → getD counters v 0 ≡ count v (take i es)
   pub bounded : (v : ℕ) → getD counters v 0 ≤ bound
 
-module _ (bound : ℕ) (es : List ℕ) where
-  pub counted-none : Counted bound es 0 (replicate 256 0)
+module _ (w bound : ℕ) (es : List ℕ) where
+  pub counted-none : Counted w bound es 0 (replicate w 0)
   counted-none = record {
-    sized = length-replicate {A = ℕ} 256 0;
-    counts = (λ v. omega (arith, cleared 256 v, count-none v es));
-    bounded = (λ v. omega (arith, cleared 256 v));
+    sized = length-replicate {A = ℕ} w 0;
+    counts = (λ v. omega (arith, cleared w v, count-none v es));
+    bounded = (λ v. omega (arith, cleared w v));
   }
 
-  module _ (i : ℕ) (counters : List ℕ) (s : Counted bound es i counters) where
+  module _ (i : ℕ) (counters : List ℕ) (s : Counted w bound es i counters) where
     -- a counter is no more than the number of estimates passed
     pub counted-few : (v : ℕ) → getD counters v 0 ≤ i
     counted-few v = omega (arith, s .counts v, count-misses v (take i es), length-take i es)
 
     -- one estimate more, whose count stays within the bound
-    pub counted-more : i < length es → getD es i 0 < 256 → getD counters (getD es i 0) 0 + 1 ≤ bound
-        → Counted bound es (i + 1) (set counters (getD es i 0) (getD counters (getD es i 0) 0 + 1))
+    pub counted-more : i < length es → getD es i 0 < w → getD counters (getD es i 0) 0 + 1 ≤ bound
+        → Counted w bound es (i + 1) (set counters (getD es i 0) (getD counters (getD es i 0) 0 + 1))
     counted-more h low more = record {
       sized = simp length-set (s .sized);
       counts = (λ v. each v .0);

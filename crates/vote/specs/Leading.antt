@@ -1,4 +1,4 @@
--- A value with its count, and which of two values goes before the other.
+-- What the vote tells, a value with its count, and which of two values goes before the other.
 use mathlib.Core.Path.{_≡_, refl, ap}
 use mathlib.Core.Bool.{true, false}
 use mathlib.Core.List.{List}
@@ -7,12 +7,17 @@ use native.Mathlib.Omega.{arith}
 use borrow.Author.Tests.{lt-ltb, le-ltb, eq-eqb, ne-eqb}
 use lib.ListN.{take}
 use Rattle.model.specs.Symbols.{choose, count}
-use Rattle.model.specs.Vote.{goesBefore, firstOf, otherCount}
+use Rattle.model.specs.Vote.{goesBefore, firstOf, otherCount, leader, leadCount, nextCount, zeroCount}
 use Rattle.vote.specs.declared.Lead.{Lead}
+use Rattle.vote.specs.declared.Vote.{Vote}
 
 -- a value, and how many of the estimates have it
 abbrev pub leadOf : List ℕ → ℕ → Lead
 leadOf es v = record { value = v; count = count v es }
+
+-- what the vote over estimates tells
+abbrev pub voteOf : List ℕ → Vote
+voteOf es = record { leader = leader es; lead = leadCount es; next = nextCount es; zeros = zeroCount es }
 
 module _ (es : List ℕ) (a b : ℕ) where
   pub more-before : count b es < count a es → goesBefore es a b ≡ true

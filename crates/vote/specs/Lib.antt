@@ -1,5 +1,3 @@
--- What the calls over one data symbol's checks require, and the laws of their loops, of the vote and of a visit.
-pub mod Checks
+-- The laws of the vote's loops.
 pub mod Leading
-pub mod Changes
 pub mod Counters

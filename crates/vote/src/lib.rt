@@ -1,21 +1,11 @@
-// The vote over the estimates of a data symbol, a quick test before it, and the gathering of the estimates.
+// The vote over estimates, and a quick test before it.
 ghost use mathlib.Core.Path.{_≡_};
-ghost use mathlib.Core.List.{_∷_};
-ghost use Prim.Native.Nat.{_+_, _%_, _<_, _≤_, max};
+ghost use Prim.Native.Nat.{_<_, _≤_, max};
 ghost use lib.Dec.{eqb, ltb};
 ghost use lib.ListN.{length};
-ghost use Rattle.model.specs.Code.{checksBy};
-ghost use Rattle.model.specs.Symbols.{choose, same, count, symbolsAt};
-ghost use Rattle.model.specs.Vote.{goesBefore, leader, leadCount, otherCount, nextCount, zeroCount};
-ghost use Rattle.vote.specs.Checks.{AtChecks};
-ghost use Rattle.vote.specs.Leading.{leadOf};
-
-// 1 where two symbols are equal, else 0.
-fn equal(a: u8, b: u8) -> u8
-    ensures { λ r. ⌜ r ≡ same a b ⌝ }
-{
-    if a == b { 1 } else { 0 }
-}
+ghost use Rattle.model.specs.Symbols.{choose, count};
+ghost use Rattle.model.specs.Vote.{goesBefore, leader, leadCount, otherCount};
+ghost use Rattle.vote.specs.Leading.{leadOf, voteOf};
 
 // How often v stands among the estimates.
 fn count_equal(es: &[u8], v: u8) -> u8
@@ -25,7 +15,7 @@ fn count_equal(es: &[u8], v: u8) -> u8
     let mut n: u8 = 0;
     let mut i = 0;
     while i < es.len() {
-        n += equal(v, es[i]);
+        n += symbols::equal(v, es[i]);
         i += 1;
     }
     n
@@ -113,8 +103,7 @@ pub struct Vote {
 // The vote over 2 to 33 estimates: each is a candidate, and its count is taken over all of them.
 pub fn vote_over(es: &[u8]) -> Vote
     requires { ⌜ (2 ≤ length (now es)) × (length (now es) ≤ 33) ⌝ }
-    ensures { λ r. ⌜ r
-        ≡ record { leader = leader (now (es .entry)); lead = leadCount (now (es .entry)); next = nextCount (now (es .entry)); zeros = zeroCount (now (es .entry)) } ⌝ }
+    ensures { λ r. ⌜ r ≡ voteOf (now (es .entry)) ⌝ }
 {
     let best = leader_of(es);
     let h = best.value;
@@ -146,26 +135,4 @@ pub fn lead_above(es: &[u8], bound: u8) -> bool
         i += 1;
     }
     false
-}
-
-// a modulo k, by one comparison. The check of data symbol j by position p is j + p modulo k.
-pub fn wrapped(k: usize, a: usize) -> usize
-    requires { ⌜ a < k + k ⌝ }
-    ensures { λ r. ⌜ r ≡ a % k ⌝ }
-{
-    if a < k { a } else { a - k }
-}
-
-// The estimates of data symbol j: its own difference, and the syndrome at each of its checks.
-pub fn gather(k: usize, positions: &[u16], j: usize, syndrome: &[u8], own: u8, es: &mut [u8])
-    requires { ⌜ AtChecks k (now positions) j (now syndrome) × (length (now es) ≡ length (now positions) + 1) ⌝ }
-    ensures { λ r. ⌜ now (es .exit) ≡ own ∷ symbolsAt (now (syndrome .entry)) (checksBy k (now (positions .entry)) j) ⌝ }
-{
-    es[0] = own;
-    let mut i = 0;
-    while i < positions.len() {
-        let c = wrapped(k, j + (positions[i] as usize));
-        i += 1;
-        es[i] = syndrome[c];
-    }
 }

@@ -4,56 +4,48 @@ use mathlib.Core.List.{List}
 use Prim.Native.Nat.{ℕ, _+_, _%_, _<_, _≤_}
 use native.Mathlib.Omega.{arith}
 use lib.ListN.{length, getD, take}
-use Rattle.model.specs.Code.{checksBy}
+use Rattle.model.specs.Code.{Code, dataCount, checkCount, checksOf}
 use Rattle.model.specs.Symbols.{same, count, Below, tabulate, symbolsAt}
+use Rattle.params.specs.declared.Params.{Params}
+use Rattle.params.specs.Codes.{codeBy}
 use Rattle.theory.specs.Circulant.{length-checksBy}
 use Rattle.theory.specs.Counting.{count-misses, length-symbolsAt}
 use Rattle.theory.specs.Distance.{length-tabulate, getD-tabulate, tabulate-ext, below-tabulate}
-use Rattle.vote.specs.Checks.{AtChecks, zeros-turn, zeros-none}
+use Rattle.checks.specs.Checks.{count-none-at, count-turn-at}
 
 -- for each data symbol, the zeros of the syndrome at its checks
-unfoldable pub zeroCounts : ℕ → List ℕ → List ℕ → List ℕ
-zeroCounts k ps s = tabulate k (λ j. count 0 (symbolsAt s (checksBy k ps j)))
-
--- a table of at most 32 positions below k, and a syndrome of k symbols
-pub record AllChecks (k : ℕ) (ps s : List ℕ) : Type 0 where
-  pub some : 0 < k
-  pub size : k ≤ 4096
-  pub len : length s ≡ k
-  pub few : length ps ≤ 32
-  pub below : (i : ℕ) → i < length ps → getD ps i 0 < k
-
--- what a call over the checks of one data symbol requires has it, for each syndrome of that length
-pub all-checks : {k : ℕ} {ps : List ℕ} {j : ℕ} {s : List ℕ} → AtChecks k ps j s → (t : List ℕ) → length t ≡ k → AllChecks k ps t
-all-checks f t e = record { some = omega (arith, f .symbol); size = f .size; len = e; few = f .few; below = f .below }
+unfoldable pub zeroCounts : Code → List ℕ → List ℕ
+zeroCounts c s = tabulate (dataCount c) (λ j. count 0 (symbolsAt s (checksOf c j)))
 
 pub count-le : (v : ℕ) (xs : List ℕ) → count v xs ≤ length xs
 count-le v xs = omega (arith, count-misses v xs)
 
-module _ (k : ℕ) (ps s : List ℕ) where
-  pub length-zeroCounts : length (zeroCounts k ps s) ≡ k
+module _ (c : Code) (s : List ℕ) where
+  pub length-zeroCounts : length (zeroCounts c s) ≡ dataCount c
   unfolding zeroCounts
-  length-zeroCounts = length-tabulate k _
+  length-zeroCounts = length-tabulate (dataCount c) _
 
-  pub zeroCounts-at : (j : ℕ) → j < k → getD (zeroCounts k ps s) j 0 ≡ count 0 (symbolsAt s (checksBy k ps j))
+  pub zeroCounts-at : (j : ℕ) → j < dataCount c → getD (zeroCounts c s) j 0 ≡ count 0 (symbolsAt s (checksOf c j))
   unfolding zeroCounts
-  zeroCounts-at j h = getD-tabulate k _ j h
+  zeroCounts-at j h = getD-tabulate (dataCount c) _ j h
 
   -- a data symbol has no more zeros than positions
-  pub zeroCounts-below : (n : ℕ) → length ps < n → Below n (zeroCounts k ps s)
+  pub zeroCounts-below : (n : ℕ) → length (c .positions) < n → Below n (zeroCounts c s)
   unfolding zeroCounts
-  zeroCounts-below n h = below-tabulate n (omega arith) k _
-      (λ j. omega (arith, count-le 0 (symbolsAt s (checksBy k ps j)), length-symbolsAt s (checksBy k ps j), length-checksBy k ps j))
+  zeroCounts-below n h = below-tabulate n (omega arith) (dataCount c) _
+      (λ j. omega (arith, count-le 0 (symbolsAt s (checksOf c j)), length-symbolsAt s (checksOf c j), length-checksBy (c .k) (c .positions) j))
 
-  -- before the first position
-  pub zeroCounts-none : tabulate k (λ j. 0) ≡ zeroCounts k (take 0 ps) s
+-- one position a turn
+module _ (p : Params) (ps s : List ℕ) where
+  -- before the first
+  pub zeroCounts-none : tabulate (dataCount (codeBy p ps)) (λ j. 0) ≡ zeroCounts (codeBy p (take 0 ps)) s
   unfolding zeroCounts
-  zeroCounts-none = tabulate-ext k _ _ (λ j h. sym (zeros-none s k ps j))
+  zeroCounts-none = tabulate-ext (p .k) _ _ (λ j h. sym (count-none-at 0 s (p .k) ps j))
 
-  -- by one position more
-  pub zeroCounts-turn : (n : ℕ) → n < length ps → (zs : List ℕ) → zs ≡ zeroCounts k (take n ps) s
-      → tabulate k (λ j. getD zs j 0 + same 0 (getD s ((j + getD ps n 0) % k) 0)) ≡ zeroCounts k (take (n + 1) ps) s
+  -- by one more
+  pub zeroCounts-turn : (n : ℕ) → n < length ps → (zs : List ℕ) → zs ≡ zeroCounts (codeBy p (take n ps)) s
+      → tabulate (dataCount (codeBy p ps)) (λ j. getD zs j 0 + same 0 (getD s ((j + getD ps n 0) % checkCount (codeBy p ps)) 0)) ≡ zeroCounts (codeBy p (take (n + 1) ps)) s
   unfolding zeroCounts
-  zeroCounts-turn n h zs e = tabulate-ext k _ _ (λ j l.
-      ap (λ (z : List ℕ). getD z j 0 + same 0 (getD s ((j + getD ps n 0) % k) 0)) e
-      ∙ omega (arith, getD-tabulate k (λ j. count 0 (symbolsAt s (checksBy k (take n ps) j))) j l, zeros-turn s k ps j n h))
+  zeroCounts-turn n h zs e = tabulate-ext (p .k) _ _ (λ j l.
+      ap (λ (z : List ℕ). getD z j 0 + same 0 (getD s ((j + getD ps n 0) % p .k) 0)) e
+      ∙ omega (arith, zeroCounts-at (codeBy p (take n ps)) s j l, count-turn-at 0 s (p .k) ps j n h))

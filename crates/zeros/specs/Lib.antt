@@ -2,4 +2,3 @@
 pub mod Counts
 pub mod Runs
 pub mod Recount
-pub mod Subtraction

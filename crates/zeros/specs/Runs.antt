@@ -20,28 +20,27 @@ added : (n : ℕ) (f : ℕ → ℕ) (xs ys : List ℕ) → length xs ≡ n → (
 unfolding addZeros
 added n f xs ys e h = ap (λ (l : ℕ). tabulate l (λ i. getD xs i 0 + same 0 (getD ys i 0))) e ∙ tabulate-ext n _ f h
 
--- what the count of data symbol j becomes
-abbrev pub countedAt : ℕ → List ℕ → List ℕ → ℕ → ℕ
-countedAt p acc src j = getD acc j 0 + same 0 (getD src ((j + p) % length src) 0)
+-- what the count of data symbol j of k becomes
+abbrev pub countedAt : ℕ → ℕ → List ℕ → List ℕ → ℕ → ℕ
+countedAt k p acc src j = getD acc j 0 + same 0 (getD src ((j + p) % k) 0)
 
-module _ (p : ℕ) (acc src : List ℕ) (sized : length acc ≡ length src) (h : p < length src) where
+module _ (k p : ℕ) (acc src : List ℕ) (all : length acc ≡ k) (sized : length src ≡ k) (h : p < k) where
   -- the data symbols from k − p on, whose checks are those before p
-  run-from : addZeros (take (length acc - (length src - p)) (drop (length src - p) acc)) (take p src) ≡ tabulate p (λ i. countedAt p acc src (length src - p + i))
+  run-from : addZeros (take (length acc - (k - p)) (drop (k - p) acc)) (take p src) ≡ tabulate p (λ i. countedAt k p acc src (k - p + i))
   run-from = added p _ _ _ (simp (length-take, length-drop) (omega arith)) (λ i l.
-      let e : (length src - p + i + p) % length src ≡ i =
-      by-eq (length src) {x = length src - p + i + p} {y = i + length src} (omega arith) ∙ add-mod-right i (length src) ∙ mod-eq-of-lt (omega arith) in
-      rw (e, getD-take (length acc - (length src - p)) (drop (length src - p) acc) i 0 (omega arith), getD-drop (length src - p) acc i 0, getD-take p src i 0 l))
+      let e : (k - p + i + p) % k ≡ i = by-eq k {x = k - p + i + p} {y = i + k} (omega arith) ∙ add-mod-right i k ∙ mod-eq-of-lt (omega arith) in
+      rw (e, getD-take (length acc - (k - p)) (drop (k - p) acc) i 0 (omega arith), getD-drop (k - p) acc i 0, getD-take p src i 0 l))
 
   -- those before k − p, whose checks start at p
-  run-to : addZeros (take (length src - p) acc) (take (length src - p) (drop p src)) ≡ tabulate (length src - p) (countedAt p acc src)
-  run-to = added (length src - p) _ _ _ (length-take-le (length src - p) acc (omega arith)) (λ i l.
-      let e : (i + p) % length src ≡ p + i = mod-eq-of-lt {m = length src} (omega arith) ∙ omega arith in
-      rw (e, getD-take (length src - p) acc i 0 l, getD-take (length src - p) (drop p src) i 0 l, getD-drop p src i 0))
+  run-to : addZeros (take (k - p) acc) (take (length src - p) (drop p src)) ≡ tabulate (k - p) (countedAt k p acc src)
+  run-to = added (k - p) _ _ _ (length-take-le (k - p) acc (omega arith)) (λ i l.
+      let e : (i + p) % k ≡ p + i = mod-eq-of-lt {m = k} (omega arith) ∙ omega arith in
+      rw (e, getD-take (k - p) acc i 0 l, getD-take (length src - p) (drop p src) i 0 (omega arith), getD-drop p src i 0))
 
-  pub runs : (r t : List ℕ) → r ≡ addZeros (take (length acc - (length src - p)) (drop (length src - p) acc)) (take p src)
-      → t ≡ addZeros (take (length src - p) (putMid (length src - p) (length acc - (length src - p)) acc r)) (take (length src - p) (drop p src))
-      → t ++ drop (length src - p) (putMid (length src - p) (length acc - (length src - p)) acc r) ≡ tabulate (length src) (countedAt p acc src)
+  pub runs : (r t : List ℕ) → r ≡ addZeros (take (length acc - (k - p)) (drop (k - p) acc)) (take p src)
+      → t ≡ addZeros (take (k - p) (putMid (k - p) (length acc - (k - p)) acc r)) (take (length src - p) (drop p src))
+      → t ++ drop (k - p) (putMid (k - p) (length acc - (k - p)) acc r) ≡ tabulate k (countedAt k p acc src)
   runs r t d e =
-      both (length src - p) acc (omega arith) p (countedAt p acc src) r t (d ∙ run-from)
-      (e ∙ ap (λ (l : List ℕ). addZeros l (take (length src - p) (drop p src))) (lead (length src - p) acc (omega arith) r) ∙ run-to)
-      ∙ ap (λ (n : ℕ). tabulate n (countedAt p acc src)) (let z : length src - p + p ≡ length src = omega arith in z)
+      both (k - p) acc (omega arith) p (countedAt k p acc src) r t (d ∙ run-from)
+      (e ∙ ap (λ (l : List ℕ). addZeros l (take (length src - p) (drop p src))) (lead (k - p) acc (omega arith) r) ∙ run-to)
+      ∙ ap (λ (n : ℕ). tabulate n (countedAt k p acc src)) (let z : k - p + p ≡ k = omega arith in z)

@@ -1,23 +1,25 @@
--- `passes::run` meets its contract.
+-- `passes::run` meets its contract: either buffer has a front of k bytes.
 use borrow.Author.Needs.{needs}
-use mathlib.Core.Path.{sym}
+use mathlib.Core.Path.{_≡_, sym}
+use Prim.Native.Nat.{ℕ, _≤_}
 use native.Mathlib.Omega.{arith}
+use lib.ListN.{length, take, replicate, length-replicate}
 use lib.Seq.{length-take-le}
 use Rattle.passes.proofs.run.Statement.{statement}
 use Rattle.passes.proofs.run.Tie as tie
+
+-- a buffer of n zeros has a front of k of them
+front : (k n : ℕ) → k ≤ n → length (take k (replicate {A = ℕ} n 0)) ≡ k
+front k n h = length-take-le k (replicate n 0) (rw length-replicate h)
 
 array-borrow-prefix-few : tie.Need-array-borrow-prefix-few
 array-borrow-prefix-few c = search needs
 
 slice-aggregate-run-with : tie.Need-slice-aggregate-run-with
-slice-aggregate-run-with c =
-    let b = c .before .before .before .before .before .before .before .before .before .before in
-    sym (length-take-le (b .args .k) _ (omega arith))
+slice-aggregate-run-with c = sym (front _ 128 (omega arith))
 
 run-with-requires : tie.Need-run-with-requires
-run-with-requires c κs =
-    let b = c .before .before .before .before .before .before .before .before .before .before in
-    (b .pre .0, b .pre .1, b .pre .2, length-take-le (b .args .k) _ (omega arith))
+run-with-requires c κs = let p = c .before .before .before .before .before .before .before .before .before .before .pre in (p .0, p .1, p .2, front _ 128 (omega arith))
 
 same-length : tie.Need-same-length
 same-length c = search needs
@@ -32,17 +34,13 @@ returns : tie.Need-returns
 returns c = search needs
 
 array-borrow-prefix-zeros : tie.Need-array-borrow-prefix-zeros
-array-borrow-prefix-zeros c = search needs
+array-borrow-prefix-zeros c = omega (arith, c .before .before .before .before .before .before .before .before .before .pre .0 .usable .table .k-high)
 
 slice-aggregate-run-with-2 : tie.Need-slice-aggregate-run-with-2
-slice-aggregate-run-with-2 c =
-    let b = c .before .before .before .before .before .before .before .before .before .before in
-    sym (length-take-le (b .args .k) _ (omega (arith, b .pre .0 .limits .k-high)))
+slice-aggregate-run-with-2 c = sym (front _ 4096 (c .before .before .before .before .before .before .before .before .before .before .pre .0 .usable .table .k-high))
 
 run-with-requires-2 : tie.Need-run-with-requires-2
-run-with-requires-2 c κs =
-    let b = c .before .before .before .before .before .before .before .before .before .before in
-    (b .pre .0, b .pre .1, b .pre .2, length-take-le (b .args .k) _ (omega (arith, b .pre .0 .limits .k-high)))
+run-with-requires-2 c κs = let p = c .before .before .before .before .before .before .before .before .before .before .pre in (p .0, p .1, p .2, front _ 4096 (p .0 .usable .table .k-high))
 
 same-length-4 : tie.Need-same-length-4
 same-length-4 c = search needs

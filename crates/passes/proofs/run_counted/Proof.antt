@@ -1,39 +1,70 @@
+-- `passes::run_counted` meets its contract. The inner invariant: the state is that after the first j visits of the pass.
+-- The outer one: the passes that are left give what the whole run gives, with at most k changes a pass.
 use mathlib.Core.Path.{_≡_, refl, sym, _∙_, ap}
 use mathlib.Core.Logic.{⊎-elim}
 use mathlib.Core.List.{List, []}
 use Prim.Native.Nat.{ℕ, _≤_, _-_, _*_}
 use native.Mathlib.Omega.{arith}
 use lib.ListN.{length, drop, drop-of-length-le}
-use Rattle.model.specs.Code.{Code, codeOf}
+use Rattle.model.specs.Code.{Code}
+use Rattle.params.specs.Codes.{codeBy}
 use Rattle.zeros.specs.Counts.{zeroCounts, length-zeroCounts}
-use Rattle.passes.specs.Progress.{Progress, progress, visitOf, visits, passesFrom, runOf, Ready, Kept, kept-by, visits-suc, pass-stop, pass-go, passes-run}
+use Rattle.visits.specs.Progress.{Progress, progress, visitOf, Ready}
+use Rattle.passes.specs.Runs.{visits, passesFrom, runOf, Kept, kept-by, visits-suc, pass-stop, pass-go, passes-run}
 use Rattle.passes.proofs.run_counted.Statement.{statement}
 use Rattle.passes.proofs.run_counted.Tie as tie
 
 abbrev Inv-loop2 : tie.InvT-loop2
-Inv-loop2 q k positions thresholds result₀ syndrome₀ difference₀ zeros₀ n tally₀ p before threshold j₀ result syndrome difference zeros tally j =
-    (j ≤ k)
-    × (progress result syndrome difference tally ≡ visits (codeOf q k positions) threshold j (progress result₀ syndrome₀ difference₀ tally₀))
-    × (zeros ≡ zeroCounts k positions syndrome)
+Inv-loop2 code positions thresholds result₀ syndrome₀ difference₀ zeros₀ n tally₀ p before threshold j₀ result syndrome difference zeros tally j =
+    (j ≤ code .k)
+    × (progress result syndrome difference tally ≡ visits (codeBy code positions) threshold j (progress result₀ syndrome₀ difference₀ tally₀))
+    × (zeros ≡ zeroCounts (codeBy code positions) syndrome)
 
 abbrev μ-loop2 : tie.MeasureT-loop2
-μ-loop2 q k positions thresholds result₀ syndrome₀ difference₀ zeros₀ n tally₀ p before threshold j₀ result syndrome difference zeros tally j = k - j
+μ-loop2 code positions thresholds result₀ syndrome₀ difference₀ zeros₀ n tally₀ p before threshold j₀ result syndrome difference zeros tally j = code .k - j
 
 abbrev Inv-loop : tie.InvT-loop
-Inv-loop q k positions thresholds result₀ syndrome₀ difference₀ zeros₀ n tally₀ p₀ result syndrome difference zeros tally p =
+Inv-loop code positions thresholds result₀ syndrome₀ difference₀ zeros₀ n tally₀ p₀ result syndrome difference zeros tally p =
     (p ≤ n)
-    × (zeros ≡ zeroCounts k positions syndrome)
-    × Kept (codeOf q k positions) (4096 * p) (progress result₀ syndrome₀ difference₀ tally₀) (progress result syndrome difference tally)
-    × (passesFrom (codeOf q k positions) p (drop p thresholds) (progress result syndrome difference tally)
-    ≡ passesFrom (codeOf q k positions) 0 thresholds (progress result₀ syndrome₀ difference₀ tally₀))
+    × (zeros ≡ zeroCounts (codeBy code positions) syndrome)
+    × Kept (codeBy code positions) (4096 * p) (progress result₀ syndrome₀ difference₀ tally₀) (progress result syndrome difference tally)
+    × (passesFrom (codeBy code positions) p (drop p thresholds) (progress result syndrome difference tally)
+    ≡ passesFrom (codeBy code positions) 0 thresholds (progress result₀ syndrome₀ difference₀ tally₀))
 
 abbrev μ-loop : tie.MeasureT-loop
-μ-loop q k positions thresholds result₀ syndrome₀ difference₀ zeros₀ n tally₀ p₀ result syndrome difference zeros tally p = n - p
+μ-loop code positions thresholds result₀ syndrome₀ difference₀ zeros₀ n tally₀ p₀ result syndrome difference zeros tally p = n - p
+
+-- ---- the places: the start and the outer loop, seen from the loops
+
+abbrev start : tie.At-loop Inv-loop2 μ-loop2 Inv-loop μ-loop → tie.Start Inv-loop2 μ-loop2 Inv-loop μ-loop
+start c = c .before .before .before .before .before .before .before
+
+abbrev outer : tie.At-loop2 Inv-loop2 μ-loop2 Inv-loop μ-loop → tie.At-loop Inv-loop2 μ-loop2 Inv-loop μ-loop
+outer c = c .before .before .before
+
+abbrev codeAt : tie.At-loop Inv-loop2 μ-loop2 Inv-loop μ-loop → Code
+codeAt c = codeBy (start c .args .code) (start c .args .positions .now)
+
+-- the state and the tally at the start, in the outer loop, and in the inner one
+abbrev at-start : tie.At-loop Inv-loop2 μ-loop2 Inv-loop μ-loop → Progress
+at-start c = let a = start c .args in progress (a .result .now) (a .syndrome .now) (a .difference .now) (a .opened)
+
+abbrev between : tie.At-loop Inv-loop2 μ-loop2 Inv-loop μ-loop → Progress
+between c = progress (c .loop .result) (c .loop .syndrome) (c .loop .difference) (c .loop .tally)
+
+abbrev within : tie.At-loop2 Inv-loop2 μ-loop2 Inv-loop μ-loop → Progress
+within c = progress (c .loop2 .result) (c .loop2 .syndrome) (c .loop2 .difference) (c .loop2 .tally)
+
+-- what the visits of a pass keep
+kept : (c : tie.At-loop2 Inv-loop2 μ-loop2 Inv-loop μ-loop) → Kept (codeAt (outer c)) (c .loop2 .j) (between (outer c)) (within c)
+kept c = kept-by _ _ _ _ _ (outer c .loop .inv .2 .ready) (c .loop2 .inv .1)
+
+-- ---- the needs
 
 loop-holds : tie.Need-loop-holds Inv-loop2 μ-loop2 Inv-loop μ-loop
 loop-holds c =
-    let b = c .before .before .before .before .before .before in
-    (omega arith, b .pre .3, record { ready = b .pre .0; few = omega arith }, refl)
+    let p = c .before .before .before .before .before .before .pre in
+    (omega arith, p .3, record { ready = p .0; few = omega arith }, refl)
 
 shared-slice-read-threshold : tie.Need-shared-slice-read-threshold Inv-loop2 μ-loop2 Inv-loop μ-loop
 shared-slice-read-threshold c = omega arith
@@ -44,10 +75,8 @@ loop2-holds c = (omega arith, refl, c .before .before .loop .inv .1)
 
 visit-requires : tie.Need-visit-requires Inv-loop2 μ-loop2 Inv-loop μ-loop
 visit-requires c κs =
-    let i = c .before .before .before .before .before .loop2 in
-    let o = c .before .before .before .before .before .before .before .before .loop in
-    let k = kept-by _ _ _ _ _ (o .inv .2 .ready) (i .inv .1) in
-    (k .ready, omega arith, omega (arith, k .few, o .inv .2 .few), i .inv .2)
+    let l = c .before .before .before .before .before .before in
+    (kept l .ready, omega arith, omega (arith, kept l .few, outer l .loop .inv .2 .few), l .loop2 .inv .2)
 
 add-j : tie.Need-add-j Inv-loop2 μ-loop2 Inv-loop μ-loop
 add-j c = omega arith
@@ -57,8 +86,9 @@ loop2-less c = omega arith
 
 loop2-again : tie.Need-loop2-again Inv-loop2 μ-loop2 Inv-loop μ-loop
 loop2-again c =
+    let l = c .before .before .before .before .before .before .before .before .before .before .before .before .before .before .before in
     let e = c .before .before .before .before .before .before .before .before .visit .ensures in
-    (omega arith, e .0 ∙ ap (visitOf _ _) (c .before .before .before .before .before .before .before .before .before .before .before .before .before .before .loop2 .inv .1) ∙ sym (visits-suc _ _ _ _), e .1)
+    (omega arith, e .0 ∙ ap (visitOf _ _) (l .loop2 .inv .1) ∙ sym (visits-suc _ _ _ _), e .1)
 
 add-p : tie.Need-add-p Inv-loop2 μ-loop2 Inv-loop μ-loop
 add-p c = omega arith
@@ -68,84 +98,74 @@ loop-less c = omega arith
 
 loop-again : tie.Need-loop-again Inv-loop2 μ-loop2 Inv-loop μ-loop
 loop-again c =
-    let o = c .before .before .before .before .before .before .loop in
-    let i = c .before .before .before .loop2 in
-    let a = c .before .before .before .before .before .before .before .before .before .before .before .before .before .args in
-    let x = progress (o .result) (o .syndrome) (o .difference) (o .tally) in
-    let k = kept-by _ _ _ _ _ (o .inv .2 .ready) (i .inv .1) in
-    let h : i .j ≡ a .k = omega arith in (
+    let l = c .before .before .before .before in
+    let o = outer l .loop in
+    let k = kept l in
+    let h : l .loop2 .j ≡ start (outer l) .args .code .k = omega arith in (
       omega arith,
-      i .inv .2,
-      record { ready = k .ready; few = omega (arith, k .few, o .inv .2 .few, k .ready .limits .k-high) },
-      sym (pass-go (codeOf (a .q) (a .k) (a .positions .now)) (o .p) (i .j) (a .thresholds .now) x (progress (i .result) (i .syndrome) (i .difference) (i .tally))
-          (omega arith) h (i .inv .1) (c .if2 .left))
+      l .loop2 .inv .2,
+      record { ready = k .ready; few = omega (arith, k .few, o .inv .2 .few, k .ready .usable .table .k-high) },
+      sym (pass-go (codeAt (outer l)) (o .p) (l .loop2 .j) (start (outer l) .args .thresholds .now) (between (outer l)) (within l) (omega arith) h (l .loop2 .inv .1) (c .if3 .left))
           ∙ o .inv .3,
     )
 
--- what holds where the two ways out of the loop meet
-record Done (c : Code) (thresholds zeros : List ℕ) (p x : Progress) (n : ℕ) : Type 0 where
+-- what holds where the two ways out of the loop meet: p is the start, x the end
+record Done (c : Code) (thresholds zs₀ zs : List ℕ) (p x : Progress) (n : ℕ) : Type 0 where
   few : n ≤ 64
-  ready : Ready c (x .state)
+  len-result : length (x .state .result) ≡ length (p .state .result)
+  len-syndrome : length (x .state .syndrome) ≡ length (p .state .syndrome)
+  len-difference : length (x .state .difference) ≡ length (p .state .difference)
+  len-zeros : length zs ≡ length zs₀
   ran : passesFrom c n [] x ≡ passesFrom c 0 thresholds p
-  counted : length zeros ≡ c .k
+
+left : {c : Code} {thresholds zs₀ zs : List ℕ} {p x : Progress} {n : ℕ} → n ≤ 64 → Ready c (p .state) → Ready c (x .state)
+    → zs₀ ≡ zeroCounts c (p .state .syndrome) → zs ≡ zeroCounts c (x .state .syndrome) → passesFrom c n [] x ≡ passesFrom c 0 thresholds p → Done c thresholds zs₀ zs p x n
+left f r y d e g = record {
+  few = f;
+  len-result = y .sized .len-result ∙ sym (r .sized .len-result);
+  len-syndrome = y .sized .len-syndrome ∙ sym (r .sized .len-syndrome);
+  len-difference = y .sized .len-difference ∙ sym (r .sized .len-difference);
+  len-zeros = ap length e ∙ length-zeroCounts _ _ ∙ sym (ap length d ∙ length-zeroCounts _ _);
+  ran = g;
+}
 
 done : (c : tie.Joined1 Inv-loop2 μ-loop2 Inv-loop μ-loop)
-    → Done (codeOf (c .before .before .before .before .before .before .before .before .args .q)
-    (c .before .before .before .before .before .before .before .before .args .k)
-    (c .before .before .before .before .before .before .before .before .args .positions .now)) (c .before .before .before .before .before .before .before .before .args .thresholds .now) (c .if1 .zeros)
-    (progress (c .before .before .before .before .before .before .before .before .args .result .now)
-    (c .before .before .before .before .before .before .before .before .args .syndrome .now)
-    (c .before .before .before .before .before .before .before .before .args .difference .now)
-    (c .before .before .before .before .before .before .before .before .args .opened))
+    → Done (codeAt (c .before)) (start (c .before) .args .thresholds .now) (start (c .before) .args .zeros .now) (c .if1 .zeros) (at-start (c .before))
     (progress (c .if1 .result) (c .if1 .syndrome) (c .if1 .difference) (c .if1 .tally)) (c .if1 .passes)
 done c =
-    let o = c .before .loop in
-    let a = (c .before .before .before .before .before .before .before .before .args) in
-    let code = codeOf (a .q) (a .k) (a .positions .now) in
-    let x = progress (o .result) (o .syndrome) (o .difference) (o .tally) in
+    let b = c .before in
+    let o = b .loop in
+    let ths : List ℕ = start b .args .thresholds .now in
+    let p = start b .pre in
     ⊎-elim
     (λ w. rw (w .1, w .2, w .3, w .4, w .5, w .7)
-    (record {
-      few = omega arith;
-      ready = o .inv .2 .ready;
-      ran = ap (λ (l : List ℕ). passesFrom code (o .p) l x) (sym (drop-of-length-le (a .thresholds .now) (w .0 .taken))) ∙ o .inv .3;
-      counted = ap length (o .inv .1) ∙ length-zeroCounts (a .k) (a .positions .now) (o .syndrome);
-    }))
-    (λ w. rw (w .6, w .7, w .8, w .9, w .10, w .12)
+    (left (omega arith) (p .0) (o .inv .2 .ready) (p .3) (o .inv .1)
+    (ap (λ (l : List ℕ). passesFrom (codeAt b) (o .p) l (between b)) (sym (drop-of-length-le ths (w .0 .taken))) ∙ o .inv .3)))
+    (λ w. rw (w .7, w .8, w .9, w .10, w .11, w .13)
     (let i = w .2 in
-    let k = kept-by _ _ _ _ _ (o .inv .2 .ready) (i .inv .1) in
-    let h : i .j ≡ a .k = omega arith in
-    record {
-      few = omega arith;
-      ready = k .ready;
-      ran = sym (pass-stop code (o .p) (i .j) (a .thresholds .now) x (progress (i .result) (i .syndrome) (i .difference) (i .tally)) (omega arith) h (i .inv .1)
-          (w .5 .taken)) ∙ o .inv .3;
-      counted = ap length (i .inv .2) ∙ length-zeroCounts (a .k) (a .positions .now) (i .syndrome);
-    }))
+    let x = progress (i .result) (i .syndrome) (i .difference) (i .tally) in
+    let h : i .j ≡ start b .args .code .k = omega arith in
+    left (omega arith) (p .0) (kept-by _ _ _ _ _ (o .inv .2 .ready) (i .inv .1) .ready) (p .3) (i .inv .2)
+    (sym (pass-stop (codeAt b) (o .p) (i .j) ths (between b) x (omega arith) h (i .inv .1) (w .6 .taken)) ∙ o .inv .3)))
     (c .if1 .came)
 
 cast-passed : tie.Need-cast-passed Inv-loop2 μ-loop2 Inv-loop μ-loop
-cast-passed c = let d = done (c .before) in omega (arith, d .few)
+cast-passed c = omega (arith, done (c .before) .few)
 
 passed-requires : tie.Need-passed-requires Inv-loop2 μ-loop2 Inv-loop μ-loop
 passed-requires c κs = tt
 
 same-length : tie.Need-same-length Inv-loop2 μ-loop2 Inv-loop μ-loop
-same-length c = let d = done (c .before .before) in let e = c .before .before .before .before .before .before .before .before .before .before .pre .0 in omega (arith, d .ready .sized .len-result, e .sized .len-result)
+same-length c = done (c .before .before) .len-result
 
 same-length-2 : tie.Need-same-length-2 Inv-loop2 μ-loop2 Inv-loop μ-loop
-same-length-2 c = let d = done (c .before .before) in let e =
-    c .before .before .before .before .before .before .before .before .before .before .pre .0 in omega (arith, d .ready .sized .len-syndrome, e .sized .len-syndrome)
+same-length-2 c = done (c .before .before) .len-syndrome
 
 same-length-3 : tie.Need-same-length-3 Inv-loop2 μ-loop2 Inv-loop μ-loop
-same-length-3 c = let d = done (c .before .before) in let e =
-    c .before .before .before .before .before .before .before .before .before .before .pre .0 in omega (arith, d .ready .sized .len-difference, e .sized .len-difference)
+same-length-3 c = done (c .before .before) .len-difference
 
 same-length-4 : tie.Need-same-length-4 Inv-loop2 μ-loop2 Inv-loop μ-loop
-same-length-4 c =
-    let b = c .before .before .before .before .before .before .before .before .before .before in
-    let a = b .args in
-    omega (arith, done (c .before .before) .counted, ap length (b .pre .3), length-zeroCounts (a .k) (a .positions .now) (a .syndrome .now))
+same-length-4 c = done (c .before .before) .len-zeros
 
 returns : tie.Need-returns Inv-loop2 μ-loop2 Inv-loop μ-loop
 unfolding runOf passesFrom

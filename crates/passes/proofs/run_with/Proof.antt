@@ -1,32 +1,17 @@
--- `passes::run_with` meets its contract.
+-- `passes::run_with` meets its contract: the zeros are counted, as `run_counted` requires.
 use borrow.Author.Needs.{needs}
-use mathlib.Core.Path.{sym, _∙_, ap, subst}
-use Prim.Native.Nat.{ℕ}
-use lib.ListN.{length}
-use Rattle.zeros.specs.Counts.{AllChecks, zeroCounts}
-use Rattle.passes.specs.Progress.{all-checks-of}
+use Rattle.visits.specs.Progress.{at-checks}
 use Rattle.passes.proofs.run_with.Statement.{statement}
 use Rattle.passes.proofs.run_with.Tie as tie
 
 count-zeros-requires : tie.Need-count-zeros-requires
-count-zeros-requires c κs =
-    let b = c .before .before .before .before .before .before .before .before in
-    let a = b .args in (
-      subst (λ (k : ℕ). AllChecks k (a .positions .now) (a .syndrome .now)) (sym (b .pre .0 .sized .len-syndrome)) (all-checks-of _ _ (b .pre .0)),
-      b .pre .3
-          ∙ sym (b .pre .0 .sized .len-syndrome),
-    )
+count-zeros-requires c κs = let p = c .before .before .before .before .before .before .before .before .pre in (at-checks _ _ (p .0), p .3)
 
 run-counted-requires : tie.Need-run-counted-requires
 run-counted-requires c κs =
-    let b = c .before .before .before .before .before .before .before .before .before .before .before .before .before .before .before in
-    let a = b .args in (
-      b .pre .0,
-      b .pre .1,
-      b .pre .2,
-      c .before .before .before .before .before .before .count-zeros .ensures
-          ∙ ap (λ (k : ℕ). zeroCounts k (a .positions .now) (a .syndrome .now)) (b .pre .0 .sized .len-syndrome),
-    )
+    let z = c .before .before .before .before .before .before in
+    let p = z .before .before .before .before .before .before .before .before .before .pre in
+    (p .0, p .1, p .2, z .count-zeros .ensures)
 
 same-length : tie.Need-same-length
 same-length c = search needs

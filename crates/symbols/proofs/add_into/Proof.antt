@@ -1,4 +1,4 @@
--- `symbols::add_into` meets its contract. Assumes nothing.
+-- `symbols::add_into` meets its contract: the loop of bytes where q is 256, else that of symbols.
 use mathlib.Core.Path.{ap, _∙_}
 use Prim.Native.Nat.{ℕ}
 use native.Mathlib.Omega.{arith}
@@ -10,15 +10,12 @@ use Rattle.symbols.proofs.add_into.Tie as tie
 add-bytes-requires : tie.Need-add-bytes-requires
 add-bytes-requires c κs = search needs
 
-sub-add-symbols : tie.Need-sub-add-symbols
-sub-add-symbols c = search needs
-
-cast-add-symbols : tie.Need-cast-add-symbols
-cast-add-symbols c = search needs
+highest-requires : tie.Need-highest-requires
+highest-requires c κs = search needs
 
 add-symbols-requires : tie.Need-add-symbols-requires
 add-symbols-requires c κs =
-    let p = c .before .before .before .before .pre in
+    let p = c .before .before .before .before .before .pre in
     (omega arith, λ i. omega (arith, p .3 i), λ i. omega (arith, p .4 i))
 
 same-length : tie.Need-same-length
@@ -34,7 +31,7 @@ same-length-2 c = search needs
 
 returns-2 : tie.Need-returns-2
 returns-2 c =
-    let a = c .before .before .before .before .before .before .before .args in
+    let a = c .before .before .before .before .before .before .before .before .args in
     c .before .before .add-symbols .ensures ∙ ap (λ (n : ℕ). addEach n (a .acc .now) (a .src .now)) (omega arith)
 
 pub add-into-spec : {M : Type 1} → statement M
@@ -42,8 +39,7 @@ add-into-spec =
     tie.close
     (tie.spec
     add-bytes-requires
-    sub-add-symbols
-    cast-add-symbols
+    highest-requires
     add-symbols-requires
     same-length
     returns

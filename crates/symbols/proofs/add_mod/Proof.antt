@@ -1,5 +1,5 @@
--- `symbols::add_mod` meets its contract. Assumes nothing.
-use Rattle.symbols.specs.Sums.{byte-sum}
+-- `symbols::add_mod` meets its contract, by `wrapped-sum`: what is carried is taken off the wrapped sum.
+use Rattle.symbols.specs.Sums.{wrapped-sum}
 use borrow.Author.Needs.{needs}
 use Rattle.symbols.proofs.add_mod.Statement.{statement}
 use Rattle.symbols.proofs.add_mod.Tie as tie
@@ -20,7 +20,7 @@ returns : tie.Need-returns
 returns c =
     let b = c .before .before .before in
     let a = b .args in
-    byte-sum (a .top) (a .a) (a .b) _ _ _ (search needs) (b .pre .0) (b .pre .1) (search needs)
+    wrapped-sum 256 (a .top) (a .a) (a .b) _ _ _ (search needs) (b .pre .0) (b .pre .1) (search needs)
     (c .before .before .wrapping-add-u8 .ensures) (c .wrapping-sub-u8 .ensures) (c .before .carried .ensures .0) (c .before .carried .ensures .1)
 
 pub add-mod-spec : {M : Type 1} → statement M

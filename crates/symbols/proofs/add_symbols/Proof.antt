@@ -1,4 +1,4 @@
--- `symbols::add_symbols` meets its contract. Assumes nothing.
+-- `symbols::add_symbols` meets its contract. The invariant: the symbols passed are written, the rest is as it was.
 use Prim.Native.Nat.{_+_, _-_}
 use native.Mathlib.Omega.{arith}
 use lib.ListN.{length, getD}

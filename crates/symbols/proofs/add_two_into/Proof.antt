@@ -1,4 +1,4 @@
--- `symbols::add_two_into` meets its contract. Assumes nothing.
+-- `symbols::add_two_into` meets its contract: the loop of bytes where q is 256, else that of symbols.
 use mathlib.Core.Path.{ap, _∙_}
 use Prim.Native.Nat.{ℕ}
 use native.Mathlib.Omega.{arith}
@@ -10,15 +10,12 @@ use Rattle.symbols.proofs.add_two_into.Tie as tie
 add-two-bytes-requires : tie.Need-add-two-bytes-requires
 add-two-bytes-requires c κs = search needs
 
-sub-add-two-symbols : tie.Need-sub-add-two-symbols
-sub-add-two-symbols c = search needs
-
-cast-add-two-symbols : tie.Need-cast-add-two-symbols
-cast-add-two-symbols c = search needs
+highest-requires : tie.Need-highest-requires
+highest-requires c κs = search needs
 
 add-two-symbols-requires : tie.Need-add-two-symbols-requires
 add-two-symbols-requires c κs =
-    let p = c .before .before .before .before .before .pre in
+    let p = c .before .before .before .before .before .before .pre in
     (omega arith, omega arith, λ i. omega (arith, p .4 i), λ i. omega (arith, p .5 i), λ i. omega (arith, p .6 i))
 
 same-length : tie.Need-same-length
@@ -34,7 +31,7 @@ same-length-2 c = search needs
 
 returns-2 : tie.Need-returns-2
 returns-2 c =
-    let a = c .before .before .before .before .before .before .before .before .args in
+    let a = c .before .before .before .before .before .before .before .before .before .args in
     c .before .before .add-two-symbols .ensures ∙ ap (λ (n : ℕ). addEach n (addEach n (a .acc .now) (a .xs .now)) (a .ys .now)) (omega arith)
 
 pub add-two-into-spec : {M : Type 1} → statement M
@@ -42,8 +39,7 @@ add-two-into-spec =
     tie.close
     (tie.spec
     add-two-bytes-requires
-    sub-add-two-symbols
-    cast-add-two-symbols
+    highest-requires
     add-two-symbols-requires
     same-length
     returns

@@ -1,4 +1,4 @@
--- `symbols::add_two_symbols` meets its contract. Assumes nothing.
+-- `symbols::add_two_symbols` meets its contract. The invariant: the symbols passed are written, the rest is as it was; one run is two sums, by `add-twice`.
 use mathlib.Core.Path.{ap, _∙_}
 use Prim.Native.Nat.{ℕ, _+_, _-_}
 use native.Mathlib.Omega.{arith}

@@ -1,4 +1,4 @@
--- `symbols::sub_into` meets its contract. Assumes nothing.
+-- `symbols::sub_into` meets its contract: the loop of bytes where q is 256, else that of symbols.
 use mathlib.Core.Path.{ap, _∙_}
 use Prim.Native.Nat.{ℕ}
 use native.Mathlib.Omega.{arith}
@@ -10,15 +10,12 @@ use Rattle.symbols.proofs.sub_into.Tie as tie
 sub-bytes-requires : tie.Need-sub-bytes-requires
 sub-bytes-requires c κs = search needs
 
-sub-sub-symbols : tie.Need-sub-sub-symbols
-sub-sub-symbols c = search needs
-
-cast-sub-symbols : tie.Need-cast-sub-symbols
-cast-sub-symbols c = search needs
+highest-requires : tie.Need-highest-requires
+highest-requires c κs = search needs
 
 sub-symbols-requires : tie.Need-sub-symbols-requires
 sub-symbols-requires c κs =
-    let p = c .before .before .before .before .before .pre in
+    let p = c .before .before .before .before .before .before .pre in
     (omega arith, omega arith, λ i. omega (arith, p .4 i), λ i. omega (arith, p .5 i))
 
 same-length : tie.Need-same-length
@@ -34,7 +31,7 @@ same-length-2 c = search needs
 
 returns-2 : tie.Need-returns-2
 returns-2 c =
-    let a = c .before .before .before .before .before .before .before .before .args in
+    let a = c .before .before .before .before .before .before .before .before .before .args in
     c .before .before .sub-symbols .ensures ∙ ap (λ (n : ℕ). subEach n (a .xs .now) (a .ys .now)) (omega arith)
 
 pub sub-into-spec : {M : Type 1} → statement M
@@ -42,8 +39,7 @@ sub-into-spec =
     tie.close
     (tie.spec
     sub-bytes-requires
-    sub-sub-symbols
-    cast-sub-symbols
+    highest-requires
     sub-symbols-requires
     same-length
     returns

@@ -8,7 +8,6 @@ use lib.ListN.{length, take}
 use lib.Seq.{take-all}
 use Rattle.model.specs.Symbols.{count}
 use Rattle.theory.specs.Turns.{count-none, count-turn}
-use Rattle.vote.specs.Checks.{same-bound}
 use Rattle.vote.proofs.count_equal.Statement.{statement}
 use Rattle.vote.proofs.count_equal.Tie as tie
 
@@ -28,7 +27,7 @@ equal-requires : tie.Need-equal-requires Inv-loop μ-loop
 equal-requires c κs = search needs
 
 add-n : tie.Need-add-n Inv-loop μ-loop
-add-n c = omega (arith, same-bound _ _ _ (c .equal .ensures))
+add-n c = omega arith
 
 add-i : tie.Need-add-i Inv-loop μ-loop
 add-i c = omega arith
@@ -40,7 +39,7 @@ loop-again : tie.Need-loop-again Inv-loop μ-loop
 loop-again c =
     let b = c .before .before .before in
     let a = b .before .before .args in
-    omega (arith, count-turn (a .v) (a .es .now) (b .loop .i) (omega arith), same-bound _ _ _ (c .equal .ensures))
+    omega (arith, count-turn (a .v) (a .es .now) (b .loop .i) (omega arith))
 
 returns : tie.Need-returns Inv-loop μ-loop
 returns c =

@@ -5,7 +5,6 @@ use borrow.Author.Needs.{needs}
 use lib.ListN.{length, getD}
 use Rattle.model.specs.Symbols.{same}
 use Rattle.theory.specs.Written.{Written, opened, kept, turned, closed}
-use Rattle.vote.specs.Checks.{same-bound}
 use Rattle.zeros.specs.Runs.{addZeros}
 use Rattle.zeros.proofs.add_zeros.Statement.{statement}
 use Rattle.zeros.proofs.add_zeros.Tie as tie
@@ -19,11 +18,11 @@ abbrev μ-loop : tie.MeasureT-loop
 loop-holds : tie.Need-loop-holds Inv-loop μ-loop
 loop-holds c = opened _ _
 
-shared-slice-read-zero-flag : tie.Need-shared-slice-read-zero-flag Inv-loop μ-loop
-shared-slice-read-zero-flag c = omega arith
+shared-slice-read-equal : tie.Need-shared-slice-read-equal Inv-loop μ-loop
+shared-slice-read-equal c = omega arith
 
-zero-flag-requires : tie.Need-zero-flag-requires Inv-loop μ-loop
-zero-flag-requires c κs = search needs
+equal-requires : tie.Need-equal-requires Inv-loop μ-loop
+equal-requires c κs = search needs
 
 slice-read-acc : tie.Need-slice-read-acc Inv-loop μ-loop
 slice-read-acc c = omega arith
@@ -31,7 +30,7 @@ slice-read-acc c = omega arith
 add-acc : tie.Need-add-acc Inv-loop μ-loop
 add-acc c =
     let l = c .before .before .before .before .loop in
-    omega (arith, kept (l .inv) (omega arith), c .before .before .before .before .before .before .before .pre .1 (l .i), same-bound _ _ _ (c .before .zero-flag .ensures))
+    omega (arith, kept (l .inv) (omega arith), c .before .before .before .before .before .before .before .pre .1 (l .i), c .before .equal .ensures)
 
 slice-write-acc : tie.Need-slice-write-acc Inv-loop μ-loop
 slice-write-acc c = omega arith
@@ -43,7 +42,7 @@ loop-less : tie.Need-loop-less Inv-loop μ-loop
 loop-less c = omega arith
 
 loop-again : tie.Need-loop-again Inv-loop μ-loop
-loop-again c = turned (c .before .before .before .before .loop .inv) (omega arith) (omega (arith, c .before .zero-flag .ensures))
+loop-again c = turned (c .before .before .before .before .loop .inv) (omega arith) (omega (arith, c .before .equal .ensures))
 
 same-length : tie.Need-same-length Inv-loop μ-loop
 same-length c = omega arith
@@ -59,8 +58,8 @@ add-zeros-spec =
     Inv-loop
     μ-loop
     loop-holds
-    shared-slice-read-zero-flag
-    zero-flag-requires
+    shared-slice-read-equal
+    equal-requires
     slice-read-acc
     add-acc
     slice-write-acc

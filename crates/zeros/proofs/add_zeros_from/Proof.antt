@@ -27,8 +27,8 @@ slice-aggregate-add-zeros c = simp length-take (omega arith)
 add-zeros-requires : tie.Need-add-zeros-requires
 add-zeros-requires c κs =
     let b = c .before .before .before .before in
-    let rest : ℕ = length (b .args .src .now) - b .args .p in
-    (simp (length-take, length-drop) (omega arith), below-part 255 (omega arith) rest (length (b .args .acc .now) - rest) (b .args .acc .now) (b .pre .2))
+    let rest : ℕ = b .args .k - b .args .p in
+    (simp (length-take, length-drop) (omega arith), below-part 255 (omega arith) rest (length (b .args .acc .now) - rest) (b .args .acc .now) (b .pre .3))
 
 slice-relend-prefix-add-zeros : tie.Need-slice-relend-prefix-add-zeros
 slice-relend-prefix-add-zeros c = search needs
@@ -36,7 +36,7 @@ slice-relend-prefix-add-zeros c = search needs
 slice-aggregate-add-zeros-2 : tie.Need-slice-aggregate-add-zeros-2
 slice-aggregate-add-zeros-2 c =
     let a = c .before .before .before .before .before .before .before .before .args in
-    sym (lead-length (length (a .src .now) - a .p) (a .acc .now) (omega arith) (c .before .before .before .add-zeros .last .0))
+    sym (lead-length (a .k - a .p) (a .acc .now) (omega arith) (c .before .before .before .add-zeros .last .0))
 
 sub-add-zeros-2 : tie.Need-sub-add-zeros-2
 sub-add-zeros-2 c = search needs
@@ -50,10 +50,10 @@ part-add-zeros-end-2 c = search needs
 add-zeros-requires-2 : tie.Need-add-zeros-requires-2
 add-zeros-requires-2 c κs =
     let b = c .before .before .before .before .before .before .before .before .before in
-    let a = b .args in
-    let rest : ℕ = length (a .src .now) - a .p in
-    let r = c .before .before .before .before .add-zeros .last .0 in
-    (lead-length rest (a .acc .now) (omega arith) r ∙ simp (length-take, length-drop) (omega arith), lead-below rest (a .acc .now) (omega arith) 255 (omega arith) (b .pre .2) r)
+    let a = b .args in (
+      sym (slice-aggregate-add-zeros-2 (c .before)) ∙ simp (length-take, length-drop) (omega arith),
+      lead-below (a .k - a .p) (a .acc .now) (omega arith) 255 (omega arith) (b .pre .3) (c .before .before .before .before .add-zeros .last .0),
+    )
 
 same-length : tie.Need-same-length
 same-length c = search needs
@@ -63,7 +63,7 @@ returns c =
     let a = c .before .before .before .before .before .before .before .before .before .before .before .before .args in
     let first = c .before .before .before .before .before .before .before .add-zeros in
     let second = c .before .before .add-zeros2 in
-    runs (a .p) (a .acc .now) (a .src .now) (omega arith) (omega arith) (first .last .0) (second .last .0) (first .ensures) (second .ensures)
+    runs (a .k) (a .p) (a .acc .now) (a .src .now) (omega arith) (omega arith) (omega arith) (first .last .0) (second .last .0) (first .ensures) (second .ensures)
 
 pub add-zeros-from-spec : {M : Type 1} → statement M
 add-zeros-from-spec =

@@ -1,5 +1,5 @@
 -- `zeros::count_zeros` meets its contract. The invariant: the zeros at the checks of the positions passed are counted.
-use mathlib.Core.Path.{_≡_, ap, _∙_}
+use mathlib.Core.Path.{_≡_, ap, sym, _∙_}
 use mathlib.Core.List.{List}
 use Prim.Native.Nat.{ℕ, _≤_, _-_}
 use native.Mathlib.Omega.{arith}
@@ -7,25 +7,27 @@ use borrow.Author.Needs.{needs}
 use lib.ListN.{length, take, length-take}
 use lib.Seq.{take-all}
 use Rattle.model.specs.Symbols.{tabulate}
+use Rattle.params.specs.Codes.{codeBy}
 use Rattle.zeros.specs.Counts.{zeroCounts, length-zeroCounts, zeroCounts-below, zeroCounts-none, zeroCounts-turn}
 use Rattle.zeros.proofs.count_zeros.Statement.{statement}
 use Rattle.zeros.proofs.count_zeros.Tie as tie
 
 abbrev Inv-loop : tie.InvT-loop
-Inv-loop positions s zeros₀ i₀ zeros i = (i ≤ length positions) × (zeros ≡ zeroCounts (length s) (take i positions) s) × (length zeros ≡ length s)
+Inv-loop code positions s zeros₀ i₀ zeros i = (i ≤ length positions) × (zeros ≡ zeroCounts (codeBy code (take i positions)) s)
 
 abbrev μ-loop : tie.MeasureT-loop
-μ-loop positions s zeros₀ i₀ zeros i = length positions - i
+μ-loop code positions s zeros₀ i₀ zeros i = length positions - i
 
 clear-requires : tie.Need-clear-requires Inv-loop μ-loop
 clear-requires c κs = search needs
 
 loop-holds : tie.Need-loop-holds Inv-loop μ-loop
 loop-holds c =
-    let a = c .before .before .before .before .before .before .before .args in
-    let e : c .before .before .clear .last .0 ≡ zeroCounts (length (a .s .now)) (take 0 (a .positions .now)) (a .s .now) =
-    c .before .before .clear .ensures ∙ ap (λ (n : ℕ). tabulate n (λ j. 0)) (omega arith) ∙ zeroCounts-none (length (a .s .now)) (a .positions .now) (a .s .now) in
-    (omega arith, e, ap length e ∙ length-zeroCounts _ _ _)
+    let b = c .before .before .before .before .before .before .before in
+    let a = b .args in (
+      omega arith,
+      c .before .before .clear .ensures ∙ ap (λ (n : ℕ). tabulate n (λ j. 0)) (b .pre .1) ∙ zeroCounts-none (a .code) (a .positions .now) (a .s .now),
+    )
 
 mul-add-zeros-from : tie.Need-mul-add-zeros-from Inv-loop μ-loop
 mul-add-zeros-from c = search needs
@@ -34,17 +36,17 @@ shared-slice-read-add-zeros-from : tie.Need-shared-slice-read-add-zeros-from Inv
 shared-slice-read-add-zeros-from c = omega arith
 
 cast-add-zeros-from : tie.Need-cast-add-zeros-from Inv-loop μ-loop
-cast-add-zeros-from c =
-    let b = c .before .before in omega (arith, c .before .before .before .before .before .before .before .before .before .before .pre .0 .below (b .loop .i) (omega arith))
+cast-add-zeros-from c = omega (arith, c .before .before .before .before .before .before .before .before .before .before .pre .0 .table .ascending .below (c .before .before .loop .i) (omega arith))
 
 add-zeros-from-requires : tie.Need-add-zeros-from-requires Inv-loop μ-loop
 add-zeros-from-requires c κs =
     let l = c .before .before .before .loop in
-    let b = c .before .before .before .before .before .before .before .before .before .before .before in (
-      l .inv .2,
-      b .pre .0 .below (l .i) (omega arith),
-      rw (l .inv .1) (zeroCounts-below (length (b .args .s .now)) (take (l .i) (b .args .positions .now)) (b .args .s .now) 255
-          (omega (arith, length-take (l .i) (b .args .positions .now)))),
+    let b = c .before .before .before .before .before .before .before .before .before .before .before in
+    let done = codeBy (b .args .code) (take (l .i) (b .args .positions .now)) in (
+      ap length (l .inv .1) ∙ length-zeroCounts done (b .args .s .now),
+      b .pre .0 .len,
+      b .pre .0 .table .ascending .below (l .i) (omega arith),
+      rw (l .inv .1) (zeroCounts-below done (b .args .s .now) 255 (omega (arith, b .pre .0 .table .J-high, length-take (l .i) (b .args .positions .now)))),
     )
 
 add-i : tie.Need-add-i Inv-loop μ-loop
@@ -57,17 +59,16 @@ loop-again : tie.Need-loop-again Inv-loop μ-loop
 loop-again c =
     let l = c .before .before .before .before .before .before .loop in
     let a = c .before .before .before .before .before .before .before .before .before .before .before .before .before .before .args in
-    let e = c .before .before .add-zeros-from .ensures ∙ zeroCounts-turn (length (a .s .now)) (a .positions .now) (a .s .now) (l .i) (omega arith) (l .zeros) (l .inv .1) in
-    (omega arith, e, ap length e ∙ length-zeroCounts _ _ _)
+    (omega arith, c .before .before .add-zeros-from .ensures ∙ zeroCounts-turn (a .code) (a .positions .now) (a .s .now) (l .i) (omega arith) (l .zeros) (l .inv .1))
 
 same-length : tie.Need-same-length Inv-loop μ-loop
-same-length c = omega arith
+same-length c = ap length (c .before .loop .inv .1) ∙ length-zeroCounts _ _ ∙ sym (c .before .before .before .before .before .before .before .before .before .pre .1)
 
 returns : tie.Need-returns Inv-loop μ-loop
 returns c =
     let l = c .before .loop in
     let a = c .before .before .before .before .before .before .before .before .before .args in
-    l .inv .1 ∙ ap (λ (ps : List ℕ). zeroCounts (length (a .s .now)) ps (a .s .now)) (take-all (l .i) (a .positions .now) (omega arith))
+    l .inv .1 ∙ ap (λ (ps : List ℕ). zeroCounts (codeBy (a .code) ps) (a .s .now)) (take-all (l .i) (a .positions .now) (omega arith))
 
 pub count-zeros-spec : {M : Type 1} → statement M
 count-zeros-spec =

@@ -1,0 +1,82 @@
+// A data symbol's checks: which they are, the estimates and counts that the syndrome gives there, and a subtraction at them.
+use params::Params;
+ghost use mathlib.Core.Path.{_≡_};
+ghost use Prim.Native.Nat.{_+_, _-_, _%_, _<_, _≤_};
+ghost use lib.ListN.{length};
+ghost use Rattle.model.specs.Code.{dataCount, checksOf};
+ghost use Rattle.model.specs.Symbols.{Below, count, symbolsAt, subtractAt};
+ghost use Rattle.params.specs.Codes.{codeBy};
+ghost use Rattle.checks.specs.Checks.{AtChecks, estimatesAt};
+
+// a modulo k, by one comparison.
+fn wrapped(k: usize, a: usize) -> usize
+    requires { ⌜ a < k + k ⌝ }
+    ensures { λ r. ⌜ r ≡ a % k ⌝ }
+{
+    if a < k { a } else { a - k }
+}
+
+// The check of data symbol j by position p.
+pub fn check_of(k: usize, j: usize, p: u16) -> usize
+    requires { ⌜ (k ≤ 4096) × (j < k) × (p < k) ⌝ }
+    ensures { λ r. ⌜ r ≡ (j + p) % k ⌝ }
+{
+    wrapped(k, j + (p as usize))
+}
+
+// The data symbol that has check c by position p.
+pub fn symbol_of(k: usize, c: usize, p: u16) -> usize
+    requires { ⌜ (k ≤ 4096) × (c < k) × (p < k) ⌝ }
+    ensures { λ r. ⌜ r ≡ (c + (k - p)) % k ⌝ }
+{
+    wrapped(k, c + (k - (p as usize)))
+}
+
+// The estimates of data symbol j: its own difference, and the syndrome at each of its checks.
+pub fn gather(code: Params, positions: &[u16], j: usize, own: u8, s: &[u8], es: &mut [u8])
+    requires { ⌜ AtChecks (codeBy code (now positions)) (now s)
+        × (j < dataCount (codeBy code (now positions)))
+        × (length (now es) ≡ length (now positions) + 1) ⌝ }
+    ensures { λ _. ⌜ now (es .exit) ≡ estimatesAt (codeBy code (now (positions .entry))) j own (now (s .entry)) ⌝ }
+{
+    es[0] = own;
+    let mut i = 0;
+    while i < positions.len() {
+        let c = check_of(code.k, j, positions[i]);
+        i += 1;
+        es[i] = s[c];
+    }
+}
+
+// How often v stands in the syndrome at the checks of data symbol j.
+pub fn count_at(code: Params, positions: &[u16], j: usize, v: u8, s: &[u8]) -> u8
+    requires { ⌜ AtChecks (codeBy code (now positions)) (now s) × (j < dataCount (codeBy code (now positions))) ⌝ }
+    ensures { λ r. ⌜ r ≡ count v (symbolsAt (now (s .entry)) (checksOf (codeBy code (now (positions .entry))) j)) ⌝ }
+{
+    let mut n: u8 = 0;
+    let mut i = 0;
+    while i < positions.len() {
+        let c = check_of(code.k, j, positions[i]);
+        n += symbols::equal(v, s[c]);
+        i += 1;
+    }
+    n
+}
+
+// h subtracted from the syndrome at each check of data symbol j.
+pub fn subtract_at(code: Params, positions: &[u16], j: usize, h: u8, s: &mut [u8])
+    requires { ⌜ AtChecks (codeBy code (now positions)) (now s)
+        × (j < dataCount (codeBy code (now positions)))
+        × (code .q ≤ 256)
+        × (h < code .q)
+        × Below (code .q) (now s) ⌝ }
+    ensures { λ _. ⌜ now (s .exit) ≡ subtractAt (code .q) h (checksOf (codeBy code (now (positions .entry))) j) (now (s .entry)) ⌝ }
+{
+    let top = symbols::highest(code.q);
+    let mut i = 0;
+    while i < positions.len() {
+        let c = check_of(code.k, j, positions[i]);
+        s[c] = symbols::sub_mod(top, s[c], h);
+        i += 1;
+    }
+}

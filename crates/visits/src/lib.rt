@@ -1,0 +1,155 @@
+// A visit to a data symbol: the vote over its estimates, and the change that the vote decides.
+use params::Params;
+use tally::Tally;
+use vote::Vote;
+ghost use mathlib.Core.Path.{_≡_};
+ghost use Prim.Native.Nat.{_+_, _<_, _≤_};
+ghost use lib.ListN.{length, getD, set};
+ghost use Rattle.model.specs.Code.{dataCount, checksOf};
+ghost use Rattle.model.specs.Decoder.{State, change};
+ghost use Rattle.model.specs.Symbols.{sub, count, symbolsAt};
+ghost use Rattle.params.specs.Codes.{codeBy};
+ghost use Rattle.vote.specs.Leading.{voteOf};
+ghost use Rattle.checks.specs.Checks.{AtChecks, estimatesAt};
+ghost use Rattle.zeros.specs.Counts.{zeroCounts};
+ghost use Rattle.visits.specs.Decisions.{toSubtract};
+ghost use Rattle.visits.specs.Progress.{progress, stateBy, Ready, visitOf};
+
+// The vote over the estimates of data symbol j, whose own difference is given.
+pub fn vote_at(code: Params, positions: &[u16], j: usize, own: u8, s: &[u8]) -> Vote
+    requires { ⌜ AtChecks (codeBy code (now positions)) (now s) × (j < dataCount (codeBy code (now positions))) ⌝ }
+    ensures { λ r. ⌜ r ≡ voteOf (estimatesAt (codeBy code (now (positions .entry))) j own (now (s .entry))) ⌝ }
+{
+    let n = positions.len() + 1;
+    let mut es = [0u8; 33];
+    checks::gather(code, positions, j, own, s, &mut es[..n]);
+    vote::vote_over(&es[..n])
+}
+
+// h subtracted from symbol j of the result and of the difference.
+fn subtract_symbol(code: Params, j: usize, h: u8, result: &mut [u8], difference: &mut [u8])
+    requires { ⌜ (code .q ≤ 256)
+        × (h < code .q)
+        × (j < length (now result))
+        × (j < length (now difference))
+        × (getD (now result) j 0 < code .q)
+        × (getD (now difference) j 0 < code .q) ⌝ }
+    ensures { λ _. ⌜ (now (result .exit) ≡ set (now (result .entry)) j (sub (code .q) (getD (now (result .entry)) j 0) h))
+        × (now (difference .exit) ≡ set (now (difference .entry)) j (sub (code .q) (getD (now (difference .entry)) j 0) h)) ⌝ }
+{
+    let top = symbols::highest(code.q);
+    result[j] = symbols::sub_mod(top, result[j], h);
+    difference[j] = symbols::sub_mod(top, difference[j], h);
+}
+
+// The change of data symbol j by h.
+pub fn change_at(
+    code: Params,
+    positions: &[u16],
+    j: usize,
+    h: u8,
+    result: &mut [u8],
+    syndrome: &mut [u8],
+    difference: &mut [u8],
+)
+    requires { ⌜ Ready (codeBy code (now positions)) (stateBy (now result) (now syndrome) (now difference))
+        × (j < dataCount (codeBy code (now positions)))
+        × (h < code .q) ⌝ }
+    ensures { λ _. ⌜ stateBy (now (result .exit)) (now (syndrome .exit)) (now (difference .exit))
+        ≡ change (code .q) (checksOf (codeBy code (now (positions .entry))) j) j h (stateBy (now (result .entry)) (now (syndrome .entry)) (now (difference .entry))) ⌝ }
+{
+    subtract_symbol(code, j, h, result, difference);
+    checks::subtract_at(code, positions, j, h, syndrome);
+}
+
+// h0 where estimates are a change at a threshold, else 0. A change needs a leader that stands more often among the
+// estimates than their zeros and the threshold together, which a quick test tells before the vote.
+fn decided(es: &[u8], threshold: u8, zeros: u8) -> u8
+    requires { ⌜ (2 ≤ length (now es)) × (length (now es) ≤ 33) × (zeros ≡ count 0 (now es)) × (zeros + threshold ≤ 255) ⌝ }
+    ensures { λ r. ⌜ r ≡ toSubtract threshold (now (es .entry)) ⌝ }
+{
+    if !vote::lead_above(es, zeros + threshold) {
+        return 0;
+    }
+    let v = vote::vote_over(es);
+    if v.lead - v.next <= threshold {
+        return 0;
+    }
+    v.leader
+}
+
+// The same for the estimates of data symbol j, which are gathered first.
+fn full_vote(
+    code: Params,
+    positions: &[u16],
+    j: usize,
+    threshold: u8,
+    own: u8,
+    zeros: u8,
+    syndrome: &[u8],
+) -> u8
+    requires { ⌜ AtChecks (codeBy code (now positions)) (now syndrome)
+        × (j < dataCount (codeBy code (now positions)))
+        × (zeros ≡ count 0 (estimatesAt (codeBy code (now positions)) j own (now syndrome)))
+        × (zeros + threshold ≤ 255) ⌝ }
+    ensures { λ r. ⌜ r ≡ toSubtract threshold (estimatesAt (codeBy code (now (positions .entry))) j own (now (syndrome .entry))) ⌝ }
+{
+    let n = positions.len() + 1;
+    let mut es = [0u8; 33];
+    checks::gather(code, positions, j, own, syndrome, &mut es[..n]);
+    decided(&es[..n], threshold, zeros)
+}
+
+// The same, from the zeros at the checks of j alone, which are given, where they settle it: where there are enough of them
+// no value can lead zero by more than the threshold.
+fn voted(
+    code: Params,
+    positions: &[u16],
+    j: usize,
+    threshold: u8,
+    own: u8,
+    others: u8,
+    syndrome: &[u8],
+) -> u8
+    requires { ⌜ AtChecks (codeBy code (now positions)) (now syndrome)
+        × (j < dataCount (codeBy code (now positions)))
+        × (others ≡ count 0 (symbolsAt (now syndrome) (checksOf (codeBy code (now positions)) j))) ⌝ }
+    ensures { λ r. ⌜ r ≡ toSubtract threshold (estimatesAt (codeBy code (now (positions .entry))) j own (now (syndrome .entry))) ⌝ }
+{
+    let zeros = others + symbols::equal(0, own);
+    if positions.len() < (zeros as usize) + (zeros as usize) + (threshold as usize) {
+        return 0;
+    }
+    full_vote(code, positions, j, threshold, own, zeros, syndrome)
+}
+
+// A visit to data symbol j with one threshold. zeros has the zeros at the checks of each data symbol, before and after.
+pub fn visit(
+    code: Params,
+    positions: &[u16],
+    j: usize,
+    threshold: u8,
+    result: &mut [u8],
+    syndrome: &mut [u8],
+    difference: &mut [u8],
+    zeros: &mut [u8],
+    tally: Tally,
+) -> Tally
+    requires { ⌜ Ready (codeBy code (now positions)) (stateBy (now result) (now syndrome) (now difference))
+        × (j < dataCount (codeBy code (now positions)))
+        × (tally .changes < 4294967295)
+        × (now zeros ≡ zeroCounts (codeBy code (now positions)) (now syndrome)) ⌝ }
+    ensures step { λ t. ⌜ progress (now (result .exit)) (now (syndrome .exit)) (now (difference .exit)) t
+        ≡ visitOf (codeBy code (now (positions .entry))) (record { symbol = j; threshold = threshold })
+        (progress (now (result .entry)) (now (syndrome .entry)) (now (difference .entry)) tally) ⌝ }
+    ensures counted { λ t. ⌜ now (zeros .exit) ≡ zeroCounts (codeBy code (now (positions .entry))) (now (syndrome .exit)) ⌝ }
+{
+    let own = difference[j];
+    let h = voted(code, positions, j, threshold, own, zeros[j], syndrome);
+    if h == 0 {
+        return tally;
+    }
+    subtract_symbol(code, j, h, result, difference);
+    zeros::subtract_checks(code, positions, j, h, syndrome, zeros);
+    tally.changed()
+}
