@@ -14,7 +14,7 @@ PYTHON = python3 -B
 CFLAGS = -std=c99 -O2 -Wall -Wextra -Werror
 
 # What the archive is made from: every crate but the test programs.
-SOURCES := $(shell find crates \( -path crates/worked -o -path crates/cases \) -prune -o -type f -print) crates.txt
+SOURCES := $(shell find crates \( -path crates/reference -o -path crates/cases \) -prune -o -type f -print) crates.txt
 VERSION := $(shell awk '/define QMTD_VERSION_(MAJOR|MINOR|PATCH) / { v = v dot $$3; dot = "." } END { print v }' include/qmtd.h)
 
 .NOTPARALLEL:
