@@ -31,23 +31,22 @@ endif
 
 .NOTPARALLEL:
 .DELETE_ON_ERROR:
-.PHONY: lib demo prove board test-c test-targets install bench pages check-pages clean FORCE
+.PHONY: lib demo prove board test-c test-targets install bench pages check-pages clean
 
 lib: $(ARCHIVE)
 
-# The flags of the last build; made anew where they are others now.
-build/%/flags: FORCE
-	@mkdir -p build/$*
-	@echo '$(TARGET_FLAGS)' | cmp -s - $@ || echo '$(TARGET_FLAGS)' >$@
+# The flags of a target's last build, written anew where they are others now.
+FLAGS := build/$(TARGET)/flags
+$(shell mkdir -p build/$(TARGET); echo '$(TARGET_FLAGS)' | cmp -s - $(FLAGS) || echo '$(TARGET_FLAGS)' >$(FLAGS))
 
 ifeq ($(TARGET)$(TARGET_FLAGS),x86-64)
 # rt's account of the proofs goes into build/prove.log, and is shown where it fails.
-$(ARCHIVE): $(SOURCES) build/$(TARGET)/flags
+$(ARCHIVE): $(SOURCES) $(FLAGS)
 	@echo "building the archive .."
 	@$(RT) staticlib qmtd >build/prove.log 2>&1 || { cat build/prove.log; exit 1; }
 	cp target/staticlib/libqmtd.a $@
 else
-$(ARCHIVE): build/qmtd.ll targets/archive targets/list build/$(TARGET)/flags
+$(ARCHIVE): build/qmtd.ll targets/archive targets/list $(FLAGS)
 	RT=$(RT) targets/archive $(TARGET) build/qmtd.ll $@ $(TARGET_FLAGS)
 endif
 
