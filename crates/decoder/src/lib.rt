@@ -7,13 +7,13 @@ ghost use Prim.Native.Nat.{_+_, _≤_};
 ghost use lib.ListN.{length};
 ghost use Rattle.model.specs.Symbols.{weight};
 ghost use Rattle.model.specs.Code.{codeOf};
-ghost use Rattle.model.specs.Decoder.{opened, distanceTo, decodedState, decodedCounts};
+ghost use Rattle.model.specs.Decoder.{stateBy, opened, distanceTo, decodedState, decodedCounts};
 ghost use Rattle.model.specs.Calls.{decodeFits, decodeOutcome, decodeOutcomeBy};
 ghost use Rattle.model.specs.Demand.{DecodeFalls, DecodeRecovers};
 ghost use Rattle.params.specs.Codes.{codeBy};
 ghost use Rattle.theory.specs.Answers.{Opens, Taken};
 ghost use Rattle.visits.specs.Progress.{progress};
-ghost use Rattle.decoder.specs.Decodes.{tallyOf};
+ghost use Rattle.decoder.specs.Decodes.{tallyOf, countsOf};
 
 // Opens a page: the result starts as the received data, S as the syndrome, D as zeros. Hands back the distance at the start.
 fn open_page(
@@ -24,8 +24,8 @@ fn open_page(
     s: &mut [u8],
     d: &mut [u8],
 ) -> u32
-    requires { ⌜ Opens (codeBy code (now positions)) (now page) (record { result = now result; syndrome = now s; difference = now d }) ⌝ }
-    ensures state { λ r. ⌜ record { result = now (result .exit); syndrome = now (s .exit); difference = now (d .exit) }
+    requires { ⌜ Opens (codeBy code (now positions)) (now page) (stateBy (now result) (now s) (now d)) ⌝ }
+    ensures state { λ r. ⌜ stateBy (now (result .exit)) (now (s .exit)) (now (d .exit))
         ≡ opened (codeBy code (now (positions .entry))) (now (page .entry)) ⌝ }
     ensures distance { λ r. ⌜ r
         ≡ distanceTo (codeBy code (now (positions .entry))) (now (page .entry)) (opened (codeBy code (now (positions .entry))) (now (page .entry))) ⌝ }
@@ -55,7 +55,7 @@ fn decode_page(
     s: &mut [u8],
     d: &mut [u8],
 ) -> Tally
-    requires { ⌜ Taken (codeBy code (now positions)) (now page) (now thresholds) (record { result = now result; syndrome = now s; difference = now d }) ⌝ }
+    requires { ⌜ Taken (codeBy code (now positions)) (now page) (now thresholds) (stateBy (now result) (now s) (now d)) ⌝ }
     ensures { λ t. ⌜ progress (now (result .exit)) (now (s .exit)) (now (d .exit)) t
         ≡ record {
           state = decodedState (codeBy code (now (positions .entry))) (now (thresholds .entry)) (now (page .entry));
@@ -87,20 +87,19 @@ pub fn decode_with(
     syndrome: &mut [u8],
     difference: &mut [u8],
 ) -> Decoded
-    requires { ⌜ code .k ≤ 4294967295 ⌝ }
     ensures outcome { λ r. ⌜ record {
       number = r .number;
       left = record {
-        state = record { result = now (result .exit); syndrome = now (syndrome .exit); difference = now (difference .exit) };
-        counts = record { passes = r .tally .passes; changes = r .tally .changes; start = r .tally .start; end = r .tally .end };
+        state = stateBy (now (result .exit)) (now (syndrome .exit)) (now (difference .exit));
+        counts = countsOf (r .tally);
       };
     } ≡ decodeOutcomeBy (codeBy code (now (positions .entry)))
         (others && decodeFits (codeBy code (now (positions .entry))) (now (page .entry))
-        (record { result = now (result .entry); syndrome = now (syndrome .entry); difference = now (difference .entry) }))
+        (stateBy (now (result .entry)) (now (syndrome .entry)) (now (difference .entry))))
         (now (page .entry)) (now (thresholds .entry))
-        (record { result = now (result .entry); syndrome = now (syndrome .entry); difference = now (difference .entry) }) ⌝ }
+        (stateBy (now (result .entry)) (now (syndrome .entry)) (now (difference .entry))) ⌝ }
     ensures falling { λ r. ⌜ (r .number ≡ 0 → DecodeFalls (codeBy code (now (positions .entry))) (now (thresholds .entry)) (now (page .entry))
-        (record { passes = r .tally .passes; changes = r .tally .changes; start = r .tally .start; end = r .tally .end })) ⌝ }
+        (countsOf (r .tally))) ⌝ }
     ensures recovery { λ r. ⌜ (r .number ≡ 0 → DecodeRecovers (codeBy code (now (positions .entry))) (now (thresholds .entry)) (now (page .entry)) (now (result .exit))) ⌝ }
 {
     let fits = answers::decode_fits(
@@ -136,11 +135,11 @@ pub fn decode(
     ensures outcome { λ r. ⌜ record {
       number = r .number;
       left = record {
-        state = record { result = now (result .exit); syndrome = now (syndrome .exit); difference = now (difference .exit) };
+        state = stateBy (now (result .exit)) (now (syndrome .exit)) (now (difference .exit));
         counts = record { passes = r .tally .passes; changes = r .tally .changes; start = r .tally .start; end = r .tally .end };
       };
     } ≡ decodeOutcome (codeOf q k (now (positions .entry))) (now (page .entry)) (now (thresholds .entry))
-        (record { result = now (result .entry); syndrome = now (syndrome .entry); difference = now (difference .entry) }) ⌝ }
+        (stateBy (now (result .entry)) (now (syndrome .entry)) (now (difference .entry))) ⌝ }
     ensures falling { λ r. ⌜ (r .number ≡ 0 → DecodeFalls (codeOf q k (now (positions .entry))) (now (thresholds .entry)) (now (page .entry))
         (record { passes = r .tally .passes; changes = r .tally .changes; start = r .tally .start; end = r .tally .end })) ⌝ }
     ensures recovery { λ r. ⌜ (r .number ≡ 0 → DecodeRecovers (codeOf q k (now (positions .entry))) (now (thresholds .entry)) (now (page .entry)) (now (result .exit))) ⌝ }
