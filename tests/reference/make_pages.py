@@ -28,6 +28,7 @@ def group(name, c_only=False):
     a new group comes last. `c_only`: its calls can be made in C alone."""
     def add(function):
         GROUPS.append((name, c_only, function))
+        return function
     return add
 
 
@@ -287,7 +288,7 @@ def heavy(pages, random):
 
 @group("refusals one by one")
 def one_by_one(pages, random):
-    """Each refusal of each call, at the edges of what it tests. Tables alone are in groups 6 and 7."""
+    """Each refusal of each call, at the edges of what it tests. Tables alone have groups of their own."""
     a, k = ref.CODE_A, 13
 
     # Numbers that would pass if only their low bits were looked at are among them.

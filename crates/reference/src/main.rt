@@ -127,6 +127,7 @@ impl Piece {
     }
 }
 
+// Memory to lend for an answer.
 fn filled() -> [u8; MOST]
     ensures { λ r. ⌜ 8300 ≡ length r ⌝ }
 {
@@ -158,6 +159,7 @@ fn position_at(table: &[u8], at: usize) -> u16 {
     position_of(table[at], table[at + 1])
 }
 
+// The positions in a table's bytes, 0 past their end.
 fn read_positions(table: &[u8]) -> [u16; 40]
     ensures { λ r. ⌜ 40 ≡ length r ⌝ }
 {
@@ -190,6 +192,7 @@ fn is_whole(record: &[u8], strings: u32, last: Piece) -> bool {
         && last.end(record) == record.len()
 }
 
+// Is what the call returns and writes what its record gives? A function for each call, and one below it where memory is lent.
 fn check_table_is_right(record: &[u8]) -> bool {
     let table = Piece::first(record);
     let positions = read_positions(table.content(record));
@@ -286,6 +289,7 @@ fn decode_is_right(record: &[u8]) -> bool {
     )
 }
 
+// A record that no function here can run came out wrong.
 fn is_unknown(call: u32) -> bool {
     print(b"\nno call has the number ");
     print_number(call as u64);
@@ -293,7 +297,6 @@ fn is_unknown(call: u32) -> bool {
     false
 }
 
-// Is what the record's call returns and writes what the record gives?
 fn is_right(record: &[u8]) -> bool {
     let call = number_at(record, 0);
     match call {
