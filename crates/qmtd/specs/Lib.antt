@@ -1,4 +1,3 @@
--- What the contracts of the C calls cite, and the laws that their proofs use.
-pub mod Bytes
+-- Laws that the proofs of the C calls use.
 pub mod Positions
-pub mod Outcomes
+pub mod Reads

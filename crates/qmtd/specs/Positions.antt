@@ -15,7 +15,7 @@ use Rattle.model.specs.Symbols.{choose, tabulate}
 use Rattle.theory.specs.Counting.{eqb-yes, eqb-no}
 use Rattle.theory.specs.Distance.{length-tabulate}
 use Rattle.theory.specs.Turns.{tabulate-snoc}
-use Rattle.qmtd.specs.Bytes.{positionAt, positionsOf}
+use Rattle.model.specs.Bytes.{positionAt, positionsOf}
 
 -- the positions, none where there are more than 32
 unfoldable pub kept : List ℕ → List ℕ

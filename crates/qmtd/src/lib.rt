@@ -1,12 +1,14 @@
 // The C calls: they read positions and write counts as bytes, and call the Rattle functions; nothing is decided twice.
+use params::Params;
 ghost use mathlib.Core.Path.{_≡_};
 ghost use Prim.Native.Nat.{_+_, _*_, _≤_};
 ghost use lib.ListN.{length, take};
 ghost use lib.Seq.{sets};
 ghost use Rattle.model.specs.Code.{codeOf};
+ghost use Rattle.model.specs.Decoder.{stateBy, decodedCounts};
 ghost use Rattle.model.specs.Calls.{tableAnswer, encodeOutcome, syndromeOutcome};
-ghost use Rattle.model.specs.Demand.{Encodes, RunFalls, Recovers};
-ghost use Rattle.qmtd.specs.Bytes.{positionsOf, wordOf, bytesOf, cDecodeOutcome};
+ghost use Rattle.model.specs.Bytes.{positionsOf, wordOf, bytesOf, cDecodeOutcome};
+ghost use Rattle.model.specs.Demand.{Encodes, DecodeFalls, DecodeRecovers};
 ghost use Rattle.qmtd.specs.Positions.{kept};
 
 // The number of two bytes.
@@ -67,9 +69,9 @@ fn put_counts(d: &mut [u8], passes: u32, changes: u32, start: u32, end: u32)
 // The version: major times 10,000 plus minor times 100 plus patch.
 #[no_mangle]
 pub extern "C" fn qmtd_version() -> u32
-    ensures { λ r. ⌜ r ≡ 100 ⌝ }
+    ensures { λ r. ⌜ r ≡ 101 ⌝ }
 {
-    100
+    101
 }
 
 // Checks a code table.
@@ -85,7 +87,7 @@ pub extern "C" fn qmtd_check_table(q: u32, k: u32, table: &[u8]) -> u32
 // Encodes data into a page.
 #[no_mangle]
 pub extern "C" fn qmtd_encode(q: u32, k: u32, table: &[u8], data: &[u8], page: &mut [u8]) -> u32
-    ensures outcome { λ r. ⌜ record { number = r; content = now (page .exit) }
+    ensures outcome { λ r. ⌜ record { number = r; left = now (page .exit) }
         ≡ encodeOutcome (codeOf q k (positionsOf (now (table .entry)))) (now («data» .entry)) (now (page .entry)) ⌝ }
     ensures word { λ r. ⌜ (r ≡ 0 → Encodes (codeOf q k (positionsOf (now (table .entry)))) (now («data» .entry)) (now (page .exit))) ⌝ }
 {
@@ -103,7 +105,7 @@ pub extern "C" fn qmtd_syndrome(
     page: &[u8],
     syndrome: &mut [u8],
 ) -> u32
-    ensures { λ r. ⌜ record { number = r; content = now (syndrome .exit) }
+    ensures { λ r. ⌜ record { number = r; left = now (syndrome .exit) }
         ≡ syndromeOutcome (codeOf q k (positionsOf (now (table .entry)))) (now (page .entry)) (now (syndrome .entry)) ⌝ }
 {
     let mut positions = [0u16; 32];
@@ -126,22 +128,19 @@ pub extern "C" fn qmtd_decode(
 ) -> u32
     ensures outcome { λ r. ⌜ record {
       number = r;
-      state = record { result = now (result .exit); syndrome = now (syndrome .exit); difference = now (difference .exit) };
-      counts = now (counts .exit);
-    }
-        ≡ cDecodeOutcome (codeOf q k (positionsOf (now (table .entry)))) (now (page .entry)) (now (thresholds .entry))
-        (record { result = now (result .entry); syndrome = now (syndrome .entry); difference = now (difference .entry) }) (now (counts .entry)) ⌝ }
-    ensures falling { λ r. ⌜ (r ≡ 0 → RunFalls (codeOf q k (positionsOf (now (table .entry)))) (now (thresholds .entry)) (now (page .entry))) ⌝ }
-    ensures recovery { λ r. ⌜ (r ≡ 0 → Recovers (codeOf q k (positionsOf (now (table .entry)))) (now (thresholds .entry)) (now (page .entry)) (now (result .exit))) ⌝ }
+      left = record { state = stateBy (now (result .exit)) (now (syndrome .exit)) (now (difference .exit)); counts = now (counts .exit) };
+    } ≡ cDecodeOutcome (codeOf q k (positionsOf (now (table .entry)))) (now (page .entry)) (now (thresholds .entry))
+        (stateBy (now (result .entry)) (now (syndrome .entry)) (now (difference .entry))) (now (counts .entry)) ⌝ }
+    ensures falling { λ r. ⌜ (r ≡ 0 → DecodeFalls (codeOf q k (positionsOf (now (table .entry)))) (now (thresholds .entry)) (now (page .entry))
+        (decodedCounts (codeOf q k (positionsOf (now (table .entry)))) (now (thresholds .entry)) (now (page .entry)))) ⌝ }
+    ensures recovery { λ r. ⌜ (r ≡ 0 → DecodeRecovers (codeOf q k (positionsOf (now (table .entry)))) (now (thresholds .entry)) (now (page .entry)) (now (result .exit))) ⌝ }
 {
     let mut positions = [0u16; 32];
     let n = read_positions(table, &mut positions);
-    if counts.len() != 16 {
-        return page::page_answer(q, k, &positions[..n], false, page);
-    }
-    let decoded = decoder::decode(
-        q,
-        k,
+    let code = Params { q, k: k as usize };
+    let decoded = decoder::decode_with(
+        counts.len() == 16,
+        code,
         &positions[..n],
         page,
         thresholds,

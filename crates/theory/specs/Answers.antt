@@ -250,3 +250,9 @@ decode-taken c others page ts lent e =
       some = w .0;
       few = w .1;
     }
+
+pub decode-others : (c : Code) (others : Bool) (page thresholds : List ℕ) (lent : State) → decodeAnswer c (others && decodeFits c page lent) page thresholds ≡ 0 → others ≡ true
+unfolding decodeAnswer pageTests tableTests sizeTests thresholdTests
+decode-others c others page ts lent e =
+    let t = taken-first (pageTests c (others && decodeFits c page lent) page) (thresholdTests ts) refl e in
+    and-true others (decodeFits c page lent) (page-taken c (others && decodeFits c page lent) page (t .0) .buffers) .0

@@ -4,8 +4,8 @@ use mathlib.Core.Path.{_∙_, ap}
 use mathlib.Core.List.{List}
 use Prim.Native.Nat.{ℕ}
 use lib.Seq.{sets}
-use Rattle.qmtd.specs.Bytes.{wordOf}
-use Rattle.qmtd.specs.Outcomes.{counts-written}
+use Rattle.model.specs.Bytes.{wordOf}
+use Rattle.qmtd.specs.Reads.{counts-written}
 use Rattle.qmtd.proofs.put_counts.Statement.{statement}
 use Rattle.qmtd.proofs.put_counts.Tie as tie
 

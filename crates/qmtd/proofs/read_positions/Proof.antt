@@ -4,7 +4,7 @@ use Prim.Native.Nat.{ℕ, _+_, _≤_, _<_, _-_, _/_}
 use native.Mathlib.Omega.{arith}
 use lib.ListN.{length, getD, set, take, length-set}
 use Rattle.model.specs.Symbols.{tabulate}
-use Rattle.qmtd.specs.Bytes.{positionAt}
+use Rattle.model.specs.Bytes.{positionAt}
 use Rattle.qmtd.specs.Positions.{kept-odd, kept-long, kept-all, byte-turn}
 use borrow.Author.Needs.{needs}
 use Rattle.qmtd.proofs.read_positions.Statement.{statement}
