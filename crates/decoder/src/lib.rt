@@ -66,7 +66,15 @@ fn decode_page(
     if start == 0 {
         return Tally::opened(0).passed(1);
     }
-    let ran = passes::run(code, positions, thresholds, result, s, d, Tally::opened(start));
+    let ran = passes::run(
+        code,
+        positions,
+        thresholds,
+        result,
+        s,
+        d,
+        Tally::opened(start),
+    );
     ran.ended(state_weight(d, s))
 }
 
@@ -117,7 +125,15 @@ pub fn decode_with(
             tally: Tally::opened(0),
         };
     }
-    let tally = decode_page(code, positions, page, thresholds, result, syndrome, difference);
+    let tally = decode_page(
+        code,
+        positions,
+        page,
+        thresholds,
+        result,
+        syndrome,
+        difference,
+    );
     Decoded { number: 0, tally }
 }
 
@@ -145,5 +161,14 @@ pub fn decode(
     ensures recovery { λ r. ⌜ (r .number ≡ 0 → DecodeRecovers (codeOf q k (now (positions .entry))) (now (thresholds .entry)) (now (page .entry)) (now (result .exit))) ⌝ }
 {
     let code = Params { q, k: k as usize };
-    decode_with(true, code, positions, page, thresholds, result, syndrome, difference)
+    decode_with(
+        true,
+        code,
+        positions,
+        page,
+        thresholds,
+        result,
+        syndrome,
+        difference,
+    )
 }
