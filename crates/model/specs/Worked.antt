@@ -7,11 +7,10 @@ use Prim.Native.Nat.{ℕ, _+_, _%_, _<_, _≤_}
 use native.Mathlib.Nat.{mod-eq-of-lt}
 use native.Mathlib.Omega.{arith}
 use lib.Dec.{T}
-use lib.ListN.{length}
 use Rattle.model.specs.Symbols.{sub, same, differ, count, distance, sumOver, tabulate, symbolsAt, subtractAt}
 use Rattle.model.specs.Code.{Code, codeOf, dataCount, checkCount, pageLength, checksOf, checksBy, checkSumBy, checkSymbol, checkSymbols, codeWord, syndrome, shared, everyBelow, selfOrthogonal, differencesFrom, differencesBy, differences, allDifferent}
 use Rattle.model.specs.Vote.{firstOf, leader, leadCount, otherCount, nextCount, Votes, votes}
-use Rattle.model.specs.Decoder.{State, Visit, Counts, estimates, isChange, change, changes, visit, after, changeCount, pass, passes, thresholdsRun, opened, passesOf, run, distanceTo, decodedState, decodedCounts}
+use Rattle.model.specs.Decoder.{Counts, estimates, isChange, change, changes, visit, after, changeCount, pass, passes, thresholdsRun, opened, passesOf, run, distanceTo, decodedState, decodedCounts}
 use Rattle.model.specs.Calls.{firstThatApplies, within, positionsFit, allBelow, sizeTests, tableTests, pageTests, thresholdTests, tableAnswer, encodeAnswer, decodeAnswer, Outcome, outcome, encodeOutcome, Decoded, decodeOutcome, decodeOutcomeBy}
 use Rattle.model.specs.Demand.{VisitFalls, WithinBound}
 

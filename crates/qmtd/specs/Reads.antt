@@ -2,15 +2,15 @@
 use mathlib.Core.Path.{_≡_, refl, ap, sym, _∙_, subst}
 use mathlib.Core.Logic.{_≢_}
 use mathlib.Core.Bool.{Bool, true, false, not, _&&_}
-use mathlib.Core.List.{List, [], _∷_, _++_, append-nil}
-use Prim.Native.Nat.{ℕ, _≤_, _<_}
+use mathlib.Core.List.{List, [], _++_, append-nil}
+use Prim.Native.Nat.{ℕ}
 use native.Mathlib.Omega.{arith}
 use lib.Dec.{eqb}
 use lib.ListN.{length, drop-of-length-le}
 use lib.Seq.{sets, sets-eq}
 use Rattle.model.specs.Bytes.{wordOf, bytesOf, cDecodeOutcome}
-use Rattle.model.specs.Calls.{Test, firstThatApplies, within, sizeTests, tableTests, pageTests, tableAnswer, encodeAnswer, syndromeAnswer, decodeFits, decodeAnswer, Outcome, outcome, Decoded, encodeOutcome, syndromeOutcome}
-use Rattle.model.specs.Code.{Code, codeOf, codeWord, syndrome}
+use Rattle.model.specs.Calls.{Test, firstThatApplies, within, sizeTests, tableTests, pageTests, tableAnswer, encodeAnswer, syndromeAnswer, decodeFits, decodeAnswer, outcome, encodeOutcome, syndromeOutcome}
+use Rattle.model.specs.Code.{codeOf, codeWord, syndrome}
 use Rattle.model.specs.Decoder.{State, decodedState, decodedCounts}
 use Rattle.model.specs.Demand.{Encodes}
 use Rattle.model.specs.Symbols.{choose}

@@ -10,14 +10,14 @@ use lib.Dec.{T, eqb, ltb, leb, eqb→eq, ltb→lt, leb→le, le→leb}
 use lib.ListN.{length, take}
 use lib.Seq.{take-at}
 use borrow.Author.Tests.{lt-leb}
-use Rattle.model.specs.Calls.{Test, test, firstThatApplies, within, positionsFit, allBelow, sizeTests, tableTests, pageTests, thresholdTests, encodeFits, stateFits, decodeFits, tableAnswer, encodeAnswer, decodeAnswer}
+use Rattle.model.specs.Calls.{Test, test, firstThatApplies, within, positionsFit, allBelow, sizeTests, tableTests, pageTests, thresholdTests, stateFits, decodeFits, tableAnswer, encodeAnswer, decodeAnswer}
 use Rattle.model.specs.Code.{Code, dataCount, checkCount, pageLength, checksEach, checkSymbols, codeWord, dataOf, selfOrthogonal}
 use Rattle.model.specs.Decoder.{State}
 use Rattle.model.specs.Demand.{Encodes}
 use Rattle.model.specs.Limits.{Limits}
 use Rattle.model.specs.Symbols.{choose, Below}
 use Rattle.theory.specs.Codes.{Usable, ByteCode}
-use Rattle.theory.specs.Counting.{is-true, eqb-yes, eqb-no}
+use Rattle.theory.specs.Counting.{is-true}
 use Rattle.theory.specs.Steps.{SymbolsBelow}
 use Rattle.theory.specs.Tables.{fit-test, orthogonal-test}
 

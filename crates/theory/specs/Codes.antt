@@ -5,7 +5,7 @@ use Prim.Native.Nat.{ℕ, _%_, _≤_, _<_}
 use native.Mathlib.Omega.{arith}
 use lib.ListN.{getD}
 use Rattle.model.specs.Code.{Code, dataCount, checkCount, checksEach, checksOf, checkSymbol, checkSymbols, codeWord, dataOf, receivedChecks, syndrome, shared, SelfOrthogonal}
-use Rattle.model.specs.Decoder.{State, opened}
+use Rattle.model.specs.Decoder.{opened}
 use Rattle.model.specs.Limits.{TableLimits}
 use Rattle.model.specs.Symbols.{sub, tabulate}
 use Rattle.theory.specs.Circulant.{table-sum, length-checksBy, inside-checksBy, apart-checksBy}

@@ -1,10 +1,10 @@
 -- Decoding a page by a code: demand 3 of any visits from an opened page, and what holds at every moment of them.
 use mathlib.Core.Path.{_≡_, ap, sym, _∙_, subst}
 use mathlib.Core.List.{List}
-use Prim.Native.Nat.{ℕ, _+_, _≤_, _<_}
+use Prim.Native.Nat.{ℕ, _≤_, _<_}
 use native.Mathlib.Omega.{arith}
 use lib.ListN.{take, drop, take-append-drop}
-use Rattle.model.specs.Code.{Code, dataCount, checkCount, pageLength, checksEach, checksOf, codeWord}
+use Rattle.model.specs.Code.{Code, dataCount, checkCount, pageLength, checksEach, checksOf}
 use Rattle.model.specs.Decoder.{State, Visit, after, passes, opened, distanceTo}
 use Rattle.model.specs.Demand.{Falls, RunFalls, Recovers}
 use Rattle.model.specs.Symbols.{count, distance}
@@ -13,7 +13,7 @@ use Rattle.theory.specs.Codes.{Usable, code-incidence, code-word, code-o
 use Rattle.theory.specs.Counting.{All}
 use Rattle.theory.specs.Distance.{wordOf, Received, Tied, page-distance}
 use Rattle.theory.specs.Falling.{InRange, after-sized, after-tied, falls-spent}
-use Rattle.theory.specs.Page.{openedBy, received, opened-sized, opened-tied, page-falls, page-recovers}
+use Rattle.theory.specs.Page.{received, opened-sized, opened-tied, page-falls, page-recovers}
 use Rattle.theory.specs.Runs.{range-passes, covered-passes}
 use Rattle.theory.specs.Steps.{SymbolsBelow, Sized, stateWeight}
 

@@ -1,4 +1,4 @@
--- The distance between the received page and the code word of the result, and how a run of visits lowers it.
+-- The distance between the received page and the code word of the result: it is the number of nonzero symbols of S and D, which a change keeps tied to the page.
 use mathlib.Core.Path.{_≡_, refl, ap, sym, _∙_, subst}
 use mathlib.Core.List.{List, [], _∷_, _++_}
 use Prim.Native.Nat.{ℕ, zero, suc, _+_, _*_, _%_, _<_}

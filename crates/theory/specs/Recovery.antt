@@ -268,7 +268,7 @@ module _ {q m k J : ℕ} {checks : ℕ → List ℕ} {u x y : List ℕ} (sent : 
   after-restores (v ∷ vs) r st f j (inl (inr c)) = after-restores vs (r .1) (visit q checks v st) (visit-fits v (r .0) st f) j (inl c)
   after-restores (v ∷ vs) r st f j (inr e) = after-restores vs (r .1) (visit q checks v st) (visit-fits v (r .0) st f) j (inr (keeps v (r .0) st f j e))
 
-  -- Theorem B: a run that visits each symbol at a threshold within the bound hands back what was sent
+  -- a run that visits each symbol at a threshold within the bound hands back what was sent
   pub recovers : (vs : List Visit) → InRange m vs → (st : State) → Fits q m k checks u x y st → ((j : ℕ) → j < m → Covered J t vs j) → after q checks vs st .result ≡ u
   recovers vs r st f c =
       let g = after-fits vs r st f in

@@ -1,4 +1,4 @@
--- The decoder's steps over any incidence of data symbols and checks, and the distance that each change lowers.
+-- The decoder's steps over any incidence of data symbols and checks: lengths and ranges, and what a change does to the weight of a state.
 use mathlib.Core.Path.{_≡_, refl, ap, sym, _∙_, subst}
 use mathlib.Core.List.{List, [], _∷_}
 use Prim.Native.Nat.{ℕ, zero, suc, _+_, _*_, _<_}
@@ -12,13 +12,9 @@ use Rattle.model.specs.Vote.{otherCount}
 use Rattle.theory.specs.Counting.{same-differ, differ-iff, All, Distinct, zeros-weight, weight-set, count-mem, sumBelow}
 use Rattle.theory.specs.Modulo.{sub-lt, sub-self, sub-zero-eq}
 
--- ---- the code
-
--- the sum that check i is before it is taken modulo q: cks l are the checks of data symbol l
+-- the sum that check i is before it is taken modulo q, over the m data symbols: checks l are those of data symbol l
 unfoldable pub checkSum : ℕ → (ℕ → List ℕ) → List ℕ → ℕ → ℕ
 checkSum m checks u i = sumBelow m (λ l. count i (checks l) * getD u l 0)
-
--- ---- the decoder's steps
 
 -- ---- lengths and ranges
 
@@ -34,6 +30,7 @@ below-set q (x ∷ xs) zero v h b (suc n) = b (suc n)
 below-set q (x ∷ xs) (suc i) v h b zero = b zero
 below-set q (x ∷ xs) (suc i) v h b (suc n) = below-set q xs i v h (λ l. b (suc l)) n
 
+-- a state of m data symbols and k checks, all below q
 pub record Sized (q m k : ℕ) (st : State) : Type 0 where
   pub len-result : length (st .result) ≡ m
   pub len-syndrome : length (st .syndrome) ≡ k
@@ -66,6 +63,7 @@ change-sized q m k pos is j h st z = record {
 
 -- ---- the weight of a state, and what a subtraction does to it
 
+-- the nonzero symbols of S and D together
 unfoldable pub stateWeight : State → ℕ
 stateWeight st = weight (st .difference) + weight (st .syndrome)
 

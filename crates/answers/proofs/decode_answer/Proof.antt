@@ -1,6 +1,6 @@
 -- `decode_answer` walks two lists of tests: the page's, then the thresholds'.
 use borrow.Author.Needs.{needs}
-use mathlib.Core.Path.{_≡_, sym, _∙_}
+use mathlib.Core.Path.{sym, _∙_}
 use Rattle.theory.specs.Answers.{decode-refused, decode-passed}
 use Rattle.answers.proofs.decode_answer.Statement.{statement}
 use Rattle.answers.proofs.decode_answer.Tie as tie

@@ -1,7 +1,7 @@
 -- `page_answer` walks the list of tests: the table's first, then 6 and 7.
 use borrow.Author.Needs.{needs}
 use borrow.Author.Tests.{not-true, not-false}
-use mathlib.Core.Path.{_≡_, sym, _∙_}
+use mathlib.Core.Path.{sym, _∙_}
 use native.Mathlib.Omega.{arith}
 use Rattle.theory.specs.Answers.{refused-by, passed-by, nothing-applies, table-usable, page-refused, page-passed}
 use Rattle.answers.proofs.page_answer.Statement.{statement}

@@ -1,7 +1,7 @@
 -- `threshold_answer` walks tests 8 and 9.
 use borrow.Author.Needs.{needs}
 use borrow.Author.Tests.{not-true, not-false}
-use mathlib.Core.Path.{_≡_, sym, _∙_}
+use mathlib.Core.Path.{sym, _∙_}
 use Rattle.model.specs.Calls.{thresholdTests}
 use Rattle.theory.specs.Answers.{refused-by, passed-by, nothing-applies}
 use Rattle.answers.proofs.threshold_answer.Statement.{statement}

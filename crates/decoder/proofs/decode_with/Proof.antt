@@ -2,13 +2,12 @@
 use borrow.Author.Needs.{needs}
 use mathlib.Core.Path.{_≡_, sym, _∙_, ap}
 use mathlib.Core.Bool.{Bool, _&&_}
-use Rattle.model.specs.Calls.{decodeFits, decodeAnswer, Decoded, decodeOutcomeBy}
-use Rattle.model.specs.Decoder.{stateBy, Counts}
+use Rattle.model.specs.Calls.{decodeFits, decodeAnswer, decodeOutcomeBy}
+use Rattle.model.specs.Decoder.{stateBy}
 use Rattle.params.specs.Codes.{codeBy}
 use Rattle.theory.specs.Answers.{decode-taken}
 use Rattle.theory.specs.Outcomes.{left-as-lent, left-as-done}
 use Rattle.theory.specs.Statements.{decode-falls, decode-recovers}
-use Rattle.tally.specs.declared.Tally.{Tally}
 use Rattle.visits.specs.Progress.{Progress}
 use Rattle.decoder.specs.Decodes.{countsOf}
 use Rattle.decoder.proofs.decode_with.Statement.{statement}

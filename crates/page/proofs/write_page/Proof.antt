@@ -2,7 +2,7 @@
 use borrow.Author.Needs.{needs}
 use mathlib.Core.Path.{sym, _∙_}
 use native.Mathlib.Omega.{arith}
-use lib.ListN.{length, drop, length-append}
+use lib.ListN.{drop}
 use lib.Seq.{length-take-le}
 use Rattle.model.specs.Code.{codeWord}
 use Rattle.page.specs.Checks.{front-written}

@@ -2,7 +2,7 @@
 use mathlib.Core.Path.{sym, _∙_}
 use Prim.Native.Nat.{_-_}
 use native.Mathlib.Omega.{arith}
-use lib.ListN.{length, length-take, length-drop}
+use lib.ListN.{length-take, length-drop}
 use Rattle.theory.specs.Parts.{lead-length}
 use Rattle.rows.specs.Rows.{copied-row}
 use borrow.Author.Needs.{needs}

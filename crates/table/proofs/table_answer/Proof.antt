@@ -1,14 +1,12 @@
 -- `table_answer` walks the list of tests: the numbers first, then 4 and 5.
 use borrow.Author.Needs.{needs}
 use borrow.Author.Tests.{not-true, not-false}
-use mathlib.Core.Path.{_≡_, sym, _∙_}
-use Rattle.model.specs.Calls.{firstThatApplies, sizeTests}
+use mathlib.Core.Path.{sym, _∙_}
 use Rattle.params.specs.Codes.{codeBy}
 use Rattle.theory.specs.Answers.{refused-by, passed-by, nothing-applies}
 use Rattle.table.specs.Table.{sized-answer, unsized-answer, sized-k}
 use Rattle.table.proofs.table_answer.Statement.{statement}
 use Rattle.table.proofs.table_answer.Tie as tie
-use Rattle.table.proofs.table_answer.Lts as lts
 
 cast-sizes-answer : tie.Need-cast-sizes-answer
 cast-sizes-answer c = search needs

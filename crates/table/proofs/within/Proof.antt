@@ -1,8 +1,6 @@
 -- `within` is the two comparisons of its definition.
-use mathlib.Core.Path.{sym, _∙_}
-use mathlib.Core.Bool.{_&&_}
+use mathlib.Core.Path.{sym}
 use native.Mathlib.Omega.{arith}
-use lib.Dec.{leb}
 use borrow.Author.Tests.{le-leb}
 use Rattle.model.specs.Calls.{within}
 use Rattle.theory.specs.Answers.{within-below}
