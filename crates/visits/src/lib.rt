@@ -6,7 +6,7 @@ ghost use mathlib.Core.Path.{_≡_};
 ghost use Prim.Native.Nat.{_+_, _<_, _≤_};
 ghost use lib.ListN.{length, getD, set};
 ghost use Rattle.model.specs.Code.{dataCount, checksOf};
-ghost use Rattle.model.specs.Decoder.{State, change};
+ghost use Rattle.model.specs.Decoder.{change};
 ghost use Rattle.model.specs.Symbols.{sub, count, symbolsAt};
 ghost use Rattle.params.specs.Codes.{codeBy};
 ghost use Rattle.vote.specs.Leading.{voteOf};

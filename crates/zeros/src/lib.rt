@@ -46,14 +46,7 @@ pub fn count_zeros(code: Params, positions: &[u16], s: &[u8], zeros: &mut [u8])
 }
 
 // v written at check c of the syndrome. Where that makes or ends a zero, the count of each data symbol in that check follows.
-fn write_check(
-    code: Params,
-    positions: &[u16],
-    c: usize,
-    v: u8,
-    s: &mut [u8],
-    zeros: &mut [u8],
-)
+fn write_check(code: Params, positions: &[u16], c: usize, v: u8, s: &mut [u8], zeros: &mut [u8])
     requires { ⌜ AtChecks (codeBy code (now positions)) (now s)
         × (c < checkCount (codeBy code (now positions)))
         × (now zeros ≡ zeroCounts (codeBy code (now positions)) (now s)) ⌝ }
