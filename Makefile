@@ -1,33 +1,60 @@
 # Builds, tries and installs the library. Everything made goes under build/ (and target/, which rt keeps).
 #
-#   make lib                    build/libqmtd.a, proved and compiled by rt
+#   make lib                    build/x86-64/libqmtd.a, proved and compiled by rt
+#   make lib TARGET=..          build/TARGET/libqmtd.a for another processor, one of targets/list; TARGET_FLAGS=.. adds
+#                               flags for clang, as -Os or -mfloat-abi=hard
 #   make demo                   prove crate by crate, build, and run the charger example
-#   make test-c                 the C tests over the archive
-#   make install PREFIX=..      header, archive and pkg-config file
-#   make bench                  the library against C: times, and instructions a data byte
+#   make board                  the charger example on an emulated Cortex-M4 board
+#   make test-c                 the C tests over the archive for x86-64
+#   make test-targets           the archives for the other processors: all built, four run under emulation
+#   make install PREFIX=..      header, archive and pkg-config file; TARGET=.. as above
+#   make bench                  the library against C: times, and instructions a data byte; TARGET=x86-64-v3 for AVX2
 #   make pages, check-pages     make the reference pages anew; compare them with the committed ones
 #   make clean                  remove build/
 
 PREFIX = /usr/local
 RT = rt
+TARGET = x86-64
+TARGET_FLAGS =
 PYTHON = python3 -B
 CFLAGS = -std=c99 -O2 -Wall -Wextra -Werror
 
 # What the archive is made from: every crate but the test programs.
-SOURCES := $(shell find crates \( -path crates/worked -o -path crates/cases \) -prune -o -type f -print) crates.txt
+SOURCES := $(shell find crates \( -path crates/reference -o -path crates/cases \) -prune -o -type f -print) crates.txt
 VERSION := $(shell awk '/define QMTD_VERSION_(MAJOR|MINOR|PATCH) / { v = v dot $$3; dot = "." } END { print v }' include/qmtd.h)
+TARGETS := $(shell awk '!/^\#/ { print $$1 }' targets/list)
+ARCHIVE := build/$(TARGET)/libqmtd.a
+
+ifeq ($(filter $(TARGET),$(TARGETS)),)
+$(error no TARGET '$(TARGET)'; there are $(TARGETS))
+endif
 
 .NOTPARALLEL:
-.PHONY: lib demo prove test-c install bench pages check-pages clean
+.DELETE_ON_ERROR:
+.PHONY: lib demo prove board test-c test-targets install bench pages check-pages clean
 
-lib: build/libqmtd.a
+lib: $(ARCHIVE)
 
+# The flags of a target's last build, written anew where they are others now.
+FLAGS := build/$(TARGET)/flags
+$(shell mkdir -p build/$(TARGET); echo '$(TARGET_FLAGS)' | cmp -s - $(FLAGS) || echo '$(TARGET_FLAGS)' >$(FLAGS))
+
+ifeq ($(TARGET)$(TARGET_FLAGS),x86-64)
 # rt's account of the proofs goes into build/prove.log, and is shown where it fails.
-build/libqmtd.a: $(SOURCES)
-	@mkdir -p build
+$(ARCHIVE): $(SOURCES) $(FLAGS)
 	@echo "building the archive .."
 	@$(RT) staticlib qmtd >build/prove.log 2>&1 || { cat build/prove.log; exit 1; }
 	cp target/staticlib/libqmtd.a $@
+else
+$(ARCHIVE): build/qmtd.ll targets/archive targets/list $(FLAGS)
+	RT=$(RT) targets/archive $(TARGET) build/qmtd.ll $@ $(TARGET_FLAGS)
+endif
+
+# What the kit compiles for x86-64, before it does so.
+build/qmtd.ll: $(SOURCES) targets/module
+	@mkdir -p build
+	@echo "taking the module .."
+	@RT=$(RT) targets/module $@
 
 # The crate qmtd and those that it builds on, each after those it depends on; the first time this takes some minutes.
 prove:
@@ -47,27 +74,35 @@ prove:
 	done
 
 demo:
-	@$(MAKE) -s -q build/libqmtd.a || $(MAKE) -s prove lib
+	@$(MAKE) -s -q build/x86-64/libqmtd.a || $(MAKE) -s prove lib
 	@$(MAKE) -s build/charger
 	@build/charger
 
-build/charger: examples/charger.c include/qmtd.h build/libqmtd.a
-	$(CC) $(CFLAGS) -Iinclude examples/charger.c build/libqmtd.a -o $@
+build/charger: examples/charger.c include/qmtd.h build/x86-64/libqmtd.a
+	$(CC) $(CFLAGS) -Iinclude examples/charger.c build/x86-64/libqmtd.a -o $@
+
+board:
+	@$(MAKE) -s lib TARGET=cortex-m4
+	@examples/cortex-m4/build examples/charger.c -o build/cortex-m4/charger.elf
+	@examples/cortex-m4/run build/cortex-m4/charger.elf
 
 test-c: lib
 	tests/c/run
 
+test-targets:
+	tests/targets/run
+
 install: lib
-	sed -e 's|@PREFIX@|$(abspath $(PREFIX))|' -e 's|@VERSION@|$(VERSION)|' qmtd.pc.in >build/qmtd.pc
+	sed -e 's|@PREFIX@|$(abspath $(PREFIX))|' -e 's|@VERSION@|$(VERSION)|' -e 's|@TARGET@|$(TARGET)|' qmtd.pc.in >build/$(TARGET)/qmtd.pc
 	install -d $(DESTDIR)$(PREFIX)/include $(DESTDIR)$(PREFIX)/lib/pkgconfig
 	install -m 644 include/qmtd.h $(DESTDIR)$(PREFIX)/include/
-	install -m 644 build/libqmtd.a $(DESTDIR)$(PREFIX)/lib/
-	install -m 644 build/qmtd.pc $(DESTDIR)$(PREFIX)/lib/pkgconfig/
+	install -m 644 $(ARCHIVE) $(DESTDIR)$(PREFIX)/lib/
+	install -m 644 build/$(TARGET)/qmtd.pc $(DESTDIR)$(PREFIX)/lib/pkgconfig/
 
 # Times, and instructions where valgrind is there to count them.
 bench: lib
-	bench/run
-	@if command -v valgrind >/dev/null; then bench/count; else echo "no valgrind: instructions not counted"; fi
+	TARGET=$(TARGET) bench/run
+	@if command -v valgrind >/dev/null; then TARGET=$(TARGET) bench/count; else echo "no valgrind: instructions not counted"; fi
 
 pages:
 	$(PYTHON) tests/reference/make_pages.py

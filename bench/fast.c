@@ -21,7 +21,7 @@ struct positions {
     size_t at[QMTD_MAX_J];
 };
 
-static uint32_t read_table(uint32_t q, uint32_t k, const uint8_t *table, size_t table_len, struct positions *positions)
+static uint32_t read_table(uint32_t q, uint32_t k, const uint8_t *table, uint64_t table_len, struct positions *positions)
 {
     size_t n = table_len / 2;
     if (q < QMTD_MIN_Q || q > QMTD_MAX_Q)
@@ -55,7 +55,7 @@ static uint32_t read_table(uint32_t q, uint32_t k, const uint8_t *table, size_t 
     return twice ? QMTD_NOT_SELF_ORTHOGONAL : QMTD_OK;
 }
 
-uint32_t CALL(check_table)(uint32_t q, uint32_t k, const uint8_t *table, size_t table_len)
+uint32_t CALL(check_table)(uint32_t q, uint32_t k, const uint8_t *table, uint64_t table_len)
 {
     struct positions positions;
     return read_table(q, k, table, table_len, &positions);
@@ -178,8 +178,8 @@ static void add_rows(uint32_t q, size_t k, const struct positions *positions, co
     }
 }
 
-uint32_t CALL(encode)(uint32_t q, uint32_t k, const uint8_t *table, size_t table_len,
-                      const uint8_t *data, size_t data_len, uint8_t *page, size_t page_len)
+uint32_t CALL(encode)(uint32_t q, uint32_t k, const uint8_t *table, uint64_t table_len,
+                      const uint8_t *data, uint64_t data_len, uint8_t *page, uint64_t page_len)
 {
     struct positions positions;
     uint32_t number = read_table(q, k, table, table_len, &positions);
@@ -208,8 +208,8 @@ static void work_out_syndrome(uint32_t q, size_t k, const struct positions *posi
     add_rows(q, k, positions, page, syndrome);
 }
 
-uint32_t CALL(syndrome)(uint32_t q, uint32_t k, const uint8_t *table, size_t table_len,
-                        const uint8_t *page, size_t page_len, uint8_t *syndrome, size_t syndrome_len)
+uint32_t CALL(syndrome)(uint32_t q, uint32_t k, const uint8_t *table, uint64_t table_len,
+                        const uint8_t *page, uint64_t page_len, uint8_t *syndrome, uint64_t syndrome_len)
 {
     struct positions positions;
     uint32_t number = read_table(q, k, table, table_len, &positions);
@@ -310,10 +310,10 @@ static void write_number(uint8_t *bytes, uint32_t number)
         bytes[i] = (uint8_t)(number >> 8 * i);
 }
 
-uint32_t CALL(decode)(uint32_t q, uint32_t k, const uint8_t *table, size_t table_len,
-                      const uint8_t *page, size_t page_len, const uint8_t *thresholds, size_t thresholds_len,
-                      uint8_t *result, size_t result_len, uint8_t *syndrome, size_t syndrome_len,
-                      uint8_t *difference, size_t difference_len, uint8_t *counts, size_t counts_len)
+uint32_t CALL(decode)(uint32_t q, uint32_t k, const uint8_t *table, uint64_t table_len,
+                      const uint8_t *page, uint64_t page_len, const uint8_t *thresholds, uint64_t thresholds_len,
+                      uint8_t *result, uint64_t result_len, uint8_t *syndrome, uint64_t syndrome_len,
+                      uint8_t *difference, uint64_t difference_len, uint8_t *counts, uint64_t counts_len)
 {
     struct positions positions;
     uint32_t number = read_table(q, k, table, table_len, &positions);

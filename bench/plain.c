@@ -19,7 +19,7 @@ static uint32_t position(const uint8_t *table, size_t a)
     return table[2 * a] | (uint32_t)table[2 * a + 1] << 8;
 }
 
-uint32_t CALL(check_table)(uint32_t q, uint32_t k, const uint8_t *table, size_t table_len)
+uint32_t CALL(check_table)(uint32_t q, uint32_t k, const uint8_t *table, uint64_t table_len)
 {
     size_t j = table_len / 2;
     if (q < QMTD_MIN_Q || q > QMTD_MAX_Q)
@@ -63,8 +63,8 @@ static uint32_t check_sum(uint32_t q, uint32_t k, const uint8_t *table, size_t j
     return sum % q;
 }
 
-uint32_t CALL(encode)(uint32_t q, uint32_t k, const uint8_t *table, size_t table_len,
-                      const uint8_t *data, size_t data_len, uint8_t *page, size_t page_len)
+uint32_t CALL(encode)(uint32_t q, uint32_t k, const uint8_t *table, uint64_t table_len,
+                      const uint8_t *data, uint64_t data_len, uint8_t *page, uint64_t page_len)
 {
     uint32_t number = CALL(check_table)(q, k, table, table_len);
     if (number != QMTD_OK)
@@ -88,8 +88,8 @@ static void work_out_syndrome(uint32_t q, uint32_t k, const uint8_t *table, size
         syndrome[i] = (uint8_t)((check_sum(q, k, table, j, page, i) + q - page[k + i]) % q);
 }
 
-uint32_t CALL(syndrome)(uint32_t q, uint32_t k, const uint8_t *table, size_t table_len,
-                        const uint8_t *page, size_t page_len, uint8_t *syndrome, size_t syndrome_len)
+uint32_t CALL(syndrome)(uint32_t q, uint32_t k, const uint8_t *table, uint64_t table_len,
+                        const uint8_t *page, uint64_t page_len, uint8_t *syndrome, uint64_t syndrome_len)
 {
     uint32_t number = CALL(check_table)(q, k, table, table_len);
     if (number != QMTD_OK)
@@ -164,10 +164,10 @@ static void write_number(uint8_t *bytes, uint32_t number)
         bytes[i] = (uint8_t)(number >> 8 * i);
 }
 
-uint32_t CALL(decode)(uint32_t q, uint32_t k, const uint8_t *table, size_t table_len,
-                      const uint8_t *page, size_t page_len, const uint8_t *thresholds, size_t thresholds_len,
-                      uint8_t *result, size_t result_len, uint8_t *syndrome, size_t syndrome_len,
-                      uint8_t *difference, size_t difference_len, uint8_t *counts, size_t counts_len)
+uint32_t CALL(decode)(uint32_t q, uint32_t k, const uint8_t *table, uint64_t table_len,
+                      const uint8_t *page, uint64_t page_len, const uint8_t *thresholds, uint64_t thresholds_len,
+                      uint8_t *result, uint64_t result_len, uint8_t *syndrome, uint64_t syndrome_len,
+                      uint8_t *difference, uint64_t difference_len, uint8_t *counts, uint64_t counts_len)
 {
     uint32_t number = CALL(check_table)(q, k, table, table_len);
     if (number != QMTD_OK)

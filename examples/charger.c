@@ -1,7 +1,7 @@
 /* charger.c - a battery pack sends its table of allowed currents over a noisy lead; the charger decodes it and decides
  * about the relay. Shows a page put right, damage beyond the bound, and a refused call.
  *
- * Build: cc -std=c99 -Iinclude examples/charger.c build/libqmtd.a */
+ * Build: cc -std=c99 -Iinclude examples/charger.c build/x86-64/libqmtd.a */
 #include "qmtd.h"
 
 #include <stdio.h>

@@ -27,14 +27,23 @@
  *     held before does not matter.
  *   - The pieces of memory lent in one call must not overlap. No call can see that: it is for the caller to keep.
  *   - A pointer may be null where its length is 0. All such calls are refused, since nothing here may be empty.
+ *   - A length is a uint64_t on every processor, since a length has 64 bits in the library's own language. A size_t or
+ *     sizeof converts by itself.
  *   - No alignment is asked of any pointer.
  *   - No heap, no static data, no locks: calls from several threads are safe on separate buffers (buffers that are only
- *     read may be shared). No recursion; allow 8 KiB of stack. From outside the archive needs at most memset.
+ *     read may be shared). No recursion; allow 8 KiB of stack. From outside the archive needs at most memset, for
+ *     Cortex-M under its ARM names __aeabi_memclr and __aeabi_memclr4.
+ *
+ * WHAT IS PROVED. What is said here of the calls is proved for every input, of the library's source on its language's
+ * abstract machine. Not proved is the compiler, on any processor. The source is lowered once, with the memory layout of
+ * x86-64 (a pointer takes 8 bytes, a length 8), and that one module is compiled for each processor. What speaks for an
+ * archive beyond the proof is that it is run against the pages of an independent program; README.md says on which
+ * processors that is done. This declaration of the calls is not proved to fit the source either: the same runs try it.
  */
 #ifndef QMTD_H
 #define QMTD_H
 
-#include <stddef.h>
+#include <stddef.h> /* size_t and NULL, for callers */
 #include <stdint.h>
 
 #ifdef __cplusplus
@@ -45,7 +54,7 @@ extern "C" {
 
 #define QMTD_VERSION_MAJOR 0
 #define QMTD_VERSION_MINOR 1
-#define QMTD_VERSION_PATCH 0
+#define QMTD_VERSION_PATCH 1
 #define QMTD_VERSION_NUMBER (QMTD_VERSION_MAJOR * 10000 + QMTD_VERSION_MINOR * 100 + QMTD_VERSION_PATCH)
 
 /* ---- Limits, both ends included ---- */
@@ -96,16 +105,16 @@ uint32_t qmtd_version(void);
  *   table_len   2 * J
  * Writes nothing. Returns QMTD_OK, or 1 to 5. The other calls make the same checks first. */
 QMTD_MUST_USE
-uint32_t qmtd_check_table(uint32_t q, uint32_t k, const uint8_t *table, size_t table_len);
+uint32_t qmtd_check_table(uint32_t q, uint32_t k, const uint8_t *table, uint64_t table_len);
 
 /* Encodes data into a page.
  *   data        read: k symbols
  *   page        written whole: the k data symbols, then the k check symbols
  * Returns QMTD_OK, or 1 to 7; refused, page is left as it was. */
 QMTD_MUST_USE
-uint32_t qmtd_encode(uint32_t q, uint32_t k, const uint8_t *table, size_t table_len,
-                     const uint8_t *data, size_t data_len,
-                     uint8_t *page, size_t page_len);
+uint32_t qmtd_encode(uint32_t q, uint32_t k, const uint8_t *table, uint64_t table_len,
+                     const uint8_t *data, uint64_t data_len,
+                     uint8_t *page, uint64_t page_len);
 
 /* Works out the syndrome of a received page.
  *   page        read: 2 * k symbols
@@ -113,9 +122,9 @@ uint32_t qmtd_encode(uint32_t q, uint32_t k, const uint8_t *table, size_t table_
  *               received check symbol i. All are 0 exactly when the page is a code word.
  * Returns QMTD_OK, or 1 to 7; refused, syndrome is left as it was. */
 QMTD_MUST_USE
-uint32_t qmtd_syndrome(uint32_t q, uint32_t k, const uint8_t *table, size_t table_len,
-                       const uint8_t *page, size_t page_len,
-                       uint8_t *syndrome, size_t syndrome_len);
+uint32_t qmtd_syndrome(uint32_t q, uint32_t k, const uint8_t *table, uint64_t table_len,
+                       const uint8_t *page, uint64_t page_len,
+                       uint8_t *syndrome, uint64_t syndrome_len);
 
 /* Decodes a received page.
  * A pass visits data symbols 0 to k - 1 with one threshold T. A visit to j collects J + 1 estimates: the difference at
@@ -136,13 +145,13 @@ uint32_t qmtd_syndrome(uint32_t q, uint32_t k, const uint8_t *table, size_t tabl
  *               differs from the received page.
  * Returns QMTD_OK, or 1 to 9; refused, result, syndrome, difference and counts are left as they were. */
 QMTD_MUST_USE
-uint32_t qmtd_decode(uint32_t q, uint32_t k, const uint8_t *table, size_t table_len,
-                     const uint8_t *page, size_t page_len,
-                     const uint8_t *thresholds, size_t thresholds_len,
-                     uint8_t *result, size_t result_len,
-                     uint8_t *syndrome, size_t syndrome_len,
-                     uint8_t *difference, size_t difference_len,
-                     uint8_t *counts, size_t counts_len);
+uint32_t qmtd_decode(uint32_t q, uint32_t k, const uint8_t *table, uint64_t table_len,
+                     const uint8_t *page, uint64_t page_len,
+                     const uint8_t *thresholds, uint64_t thresholds_len,
+                     uint8_t *result, uint64_t result_len,
+                     uint8_t *syndrome, uint64_t syndrome_len,
+                     uint8_t *difference, uint64_t difference_len,
+                     uint8_t *counts, uint64_t counts_len);
 
 #ifdef __cplusplus
 }

@@ -2,6 +2,8 @@
  * step that went wrong. The one thing that the archive may ask for from outside, memset, is here. */
 #include "qmtd.h"
 
+#include <stddef.h>
+
 /* volatile, or the compiler might make the loop a call to memset. */
 void *memset(void *to, int value, size_t len)
 {

@@ -2,20 +2,21 @@
 #include "qmtd.h"
 #include "qmtd.h"
 
-extern uint32_t (*const version)(void);
-extern uint32_t (*const check_table)(uint32_t, uint32_t, const uint8_t *, size_t);
-extern uint32_t (*const encode)(uint32_t, uint32_t, const uint8_t *, size_t, const uint8_t *, size_t, uint8_t *, size_t);
-extern uint32_t (*const syndrome)(uint32_t, uint32_t, const uint8_t *, size_t, const uint8_t *, size_t, uint8_t *, size_t);
-extern uint32_t (*const decode)(uint32_t, uint32_t, const uint8_t *, size_t, const uint8_t *, size_t,
-                                const uint8_t *, size_t, uint8_t *, size_t, uint8_t *, size_t, uint8_t *, size_t,
-                                uint8_t *, size_t);
+#define READ const uint8_t *, uint64_t
+#define LENT uint8_t *, uint64_t
 
-uint32_t (*const version)(void) = qmtd_version;
-uint32_t (*const check_table)(uint32_t, uint32_t, const uint8_t *, size_t) = qmtd_check_table;
-uint32_t (*const encode)(uint32_t, uint32_t, const uint8_t *, size_t, const uint8_t *, size_t, uint8_t *, size_t) =
-    qmtd_encode;
-uint32_t (*const syndrome)(uint32_t, uint32_t, const uint8_t *, size_t, const uint8_t *, size_t, uint8_t *, size_t) =
-    qmtd_syndrome;
-uint32_t (*const decode)(uint32_t, uint32_t, const uint8_t *, size_t, const uint8_t *, size_t,
-                         const uint8_t *, size_t, uint8_t *, size_t, uint8_t *, size_t, uint8_t *, size_t,
-                         uint8_t *, size_t) = qmtd_decode;
+typedef uint32_t version_call(void);
+typedef uint32_t check_table_call(uint32_t, uint32_t, READ);
+typedef uint32_t encode_call(uint32_t, uint32_t, READ, READ, LENT);
+typedef uint32_t syndrome_call(uint32_t, uint32_t, READ, READ, LENT);
+typedef uint32_t decode_call(uint32_t, uint32_t, READ, READ, READ, LENT, LENT, LENT, LENT);
+
+extern const struct calls {
+    version_call *version;
+    check_table_call *check_table;
+    encode_call *encode;
+    syndrome_call *syndrome;
+    decode_call *decode;
+} calls;
+
+const struct calls calls = {qmtd_version, qmtd_check_table, qmtd_encode, qmtd_syndrome, qmtd_decode};

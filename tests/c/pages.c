@@ -1,89 +1,134 @@
 /* pages.c - runs the reference pages through the archive:  pages FILE [STRIDE]
  *
- * tests/reference/README.md has the format of the file. With a STRIDE only every STRIDE-th record is run.
- * Each record runs twice: with guard bytes on both sides of every piece of lent memory, and with none, each piece a
- * heap block of exactly its length (null where that is 0), so that valgrind or a sanitizer sees any access outside.
- * Memory lent for answers holds another pattern each time: no written byte can pass for an unwritten one in both. */
+ * tests/reference/README.md has the format of the file. With a STRIDE only every STRIDE-th page of a group is run.
+ * Each page runs twice: with guard bytes on both sides of every piece of lent memory, and with none, each piece a heap
+ * block of exactly its length (null where that is 0), so that valgrind or a sanitizer sees any access outside.
+ * Memory whose content the page does not give holds another pattern each time: no written byte can pass for an unwritten
+ * one in both. */
 #include "qmtd.h"
 
 #include <stdio.h>
 #include <stdlib.h>
 #include <string.h>
 
-enum { CHECK_TABLE, ENCODE, SYNDROME, DECODE, CALLS };
-enum { TABLE, INPUT, THRESHOLDS, FIRST, SECOND, THIRD, COUNTS, PIECES };
-enum { HEAD_NUMBERS = 12, HEAD_LEN = 4 * HEAD_NUMBERS, MAX_PIECE = 8300, GUARD_LEN = 64, GUARD = 0xC3 };
+enum { MAX_NUMBERS = 8, MAX_PIECES = 10, GUARD_LEN = 64, GUARD = 0xC3 };
+enum { GIVES_BEFORE = 1, GIVES_AFTER = 2 };
 
-static const char *const group_names[] = {
-    "", "C form only: odd table lengths", "case 11: the limits of q", "case 12: the limits of a symbol",
-    "case 13: the limits of thresholds", "case 14: votes", "tables accepted", "tables refused", "encode", "syndrome",
-    "decode, clean pages", "decode, damage inside the bound", "decode, damage outside the bound",
-    "decode, heavy damage", "refusals one by one", "refusals in pairs and all together",
-    "decode, threshold lists of 1 to 64", "cases 1 to 10",
-};
-enum { GROUPS = sizeof group_names / sizeof group_names[0] };
-
-static const char *const call_names[CALLS] = {"check_table", "encode", "syndrome", "decode"};
-
-static const char *const piece_names[CALLS][PIECES] = {
-    {"table", "", "", "", "", "", ""},
-    {"table", "data", "", "page", "", "", ""},
-    {"table", "page", "", "syndrome", "", "", ""},
-    {"table", "page", "thresholds", "result", "syndrome", "difference", "counts"},
-};
-
-/* One piece of lent memory: what it holds before the call and must hold after it. */
+/* One piece of lent memory: what it holds before the call and must hold after it, null where the page does not say. */
 struct piece {
     size_t len;
     const uint8_t *before, *after;
     uint8_t *block, *at;
 };
 
+#define LENT(piece) (piece).at, (piece).len
+
+static uint32_t check_table(const uint32_t *n, const struct piece *p)
+{
+    return qmtd_check_table(n[0], n[1], LENT(p[0]));
+}
+
+static uint32_t encode(const uint32_t *n, const struct piece *p)
+{
+    return qmtd_encode(n[0], n[1], LENT(p[0]), LENT(p[1]), LENT(p[2]));
+}
+
+static uint32_t syndrome(const uint32_t *n, const struct piece *p)
+{
+    return qmtd_syndrome(n[0], n[1], LENT(p[0]), LENT(p[1]), LENT(p[2]));
+}
+
+static uint32_t decode(const uint32_t *n, const struct piece *p)
+{
+    return qmtd_decode(n[0], n[1], LENT(p[0]), LENT(p[1]), LENT(p[2]), LENT(p[3]), LENT(p[4]), LENT(p[5]), LENT(p[6]));
+}
+
+/* The calls by their number in the file: name, how many numbers each takes, the names of its pieces, the call itself.
+ * Number 0 is no call: it opens a group, whose name is the piece. */
+static const struct call {
+    const char *name;
+    uint32_t numbers;
+    const char *pieces[MAX_PIECES + 1];
+    uint32_t (*make)(const uint32_t *numbers, const struct piece *pieces);
+} calls[] = {
+    {"", 1, {"name"}, NULL},
+    {"check_table", 2, {"table"}, check_table},
+    {"encode", 2, {"table", "data", "page"}, encode},
+    {"syndrome", 2, {"table", "page", "syndrome"}, syndrome},
+    {"decode", 2, {"table", "page", "thresholds", "result", "syndrome", "difference", "counts"}, decode},
+};
+enum { OPEN_GROUP, CALLS = sizeof calls / sizeof calls[0] };
+
 struct record {
-    uint32_t group, call, q, k, number;
-    struct piece pieces[PIECES];
+    const struct call *call;
+    uint32_t number, numbers[MAX_NUMBERS];
+    size_t piece_count;
+    struct piece pieces[MAX_PIECES];
 };
 
-static uint8_t patterns[2][MAX_PIECE];
+/* What is left to read; `bad` once it was not enough. */
+struct reader {
+    const uint8_t *next;
+    size_t left;
+    int bad;
+};
 
-static uint32_t number_at(const uint8_t *bytes)
+static const uint8_t *take(struct reader *reader, size_t len)
 {
-    return bytes[0] | (uint32_t)bytes[1] << 8 | (uint32_t)bytes[2] << 16 | (uint32_t)bytes[3] << 24;
+    const uint8_t *taken = reader->next;
+    if (len > reader->left) {
+        reader->bad = 1;
+        return NULL;
+    }
+    reader->next += len;
+    reader->left -= len;
+    return taken;
 }
 
-/* Reads the record at the start of `bytes`; returns its whole length, or 0 if it is malformed. */
-static size_t read_record(const uint8_t *bytes, size_t len, struct record *record)
+static uint32_t take_number(struct reader *reader)
 {
-    if (len < HEAD_LEN)
-        return 0;
-    uint32_t head[HEAD_NUMBERS];
-    for (size_t i = 0; i < HEAD_NUMBERS; i++)
-        head[i] = number_at(bytes + 4 * i);
-    if (head[1] < 1 || head[1] >= GROUPS || head[2] >= CALLS || head[0] > len - HEAD_LEN)
-        return 0;
-
-    *record = (struct record){.group = head[1], .call = head[2], .q = head[3], .k = head[4], .number = head[11]};
-    struct piece *pieces = record->pieces;
-    for (int i = TABLE; i <= THIRD; i++) {
-        pieces[i].len = head[5 + i];
-        if (pieces[i].len > MAX_PIECE)
-            return 0;
-    }
-    pieces[COUNTS].len = record->call == DECODE ? QMTD_COUNTS_LEN : 0;
-
-    const uint8_t *next = bytes + HEAD_LEN, *end = next + head[0];
-    for (int i = TABLE; i < PIECES; i++) {
-        if (i > THRESHOLDS && record->number != QMTD_OK)
-            break;
-        if (pieces[i].len > (size_t)(end - next))
-            return 0;
-        pieces[i].after = next;
-        next += pieces[i].len;
-    }
-    return next == end ? (size_t)(end - bytes) : 0;
+    const uint8_t *b = take(reader, 4);
+    return b == NULL ? 0 : b[0] | (uint32_t)b[1] << 8 | (uint32_t)b[2] << 16 | (uint32_t)b[3] << 24;
 }
 
-static void lend(struct piece *piece, size_t guard)
+static void take_piece(struct reader *reader, struct piece *piece)
+{
+    piece->len = take_number(reader);
+    uint32_t gives = take_number(reader);
+    reader->bad |= gives > (GIVES_BEFORE | GIVES_AFTER);
+    piece->before = gives & GIVES_BEFORE ? take(reader, piece->len) : NULL;
+    piece->after = gives & GIVES_AFTER ? take(reader, piece->len) : NULL;
+}
+
+/* Takes the next record of the file. Is it one, of a call that is known here? */
+static int take_record(struct reader *file, struct record *record)
+{
+    size_t len = take_number(file);
+    struct reader reader = {take(file, len), len, file->bad};
+    uint32_t call = take_number(&reader);
+    if (file->bad || reader.bad || call >= CALLS)
+        return 0;
+    *record = (struct record){.call = &calls[call], .number = take_number(&reader)};
+    while (record->call->pieces[record->piece_count] != NULL)
+        record->piece_count++;
+    if (take_number(&reader) != record->call->numbers || take_number(&reader) != record->piece_count)
+        return 0;
+    for (uint32_t i = 0; i < record->call->numbers; i++)
+        record->numbers[i] = take_number(&reader);
+    for (size_t i = 0; i < record->piece_count; i++)
+        take_piece(&reader, &record->pieces[i]);
+    int named = call != OPEN_GROUP || record->pieces[0].before != NULL;
+    return named && !reader.bad && reader.left == 0;
+}
+
+/* What a piece holds in a run where the page does not say. */
+static uint8_t fill(int run, size_t i)
+{
+    uint8_t byte = (uint8_t)(0xA5 + 29 * i);
+    return run == 0 ? byte : (uint8_t)~byte;
+}
+
+static void lend(struct piece *piece, int run, size_t guard)
 {
     size_t size = piece->len + 2 * guard;
     piece->block = piece->at = NULL;
@@ -94,68 +139,75 @@ static void lend(struct piece *piece, size_t guard)
         abort();
     memset(piece->block, GUARD, size);
     piece->at = piece->block + guard;
-    if (piece->len > 0)
-        memcpy(piece->at, piece->before, piece->len);
+    for (size_t i = 0; i < piece->len; i++)
+        piece->at[i] = piece->before != NULL ? piece->before[i] : fill(run, i);
 }
 
 /* Is the piece, and what is around it, as it must be after the call? If not, says what is wrong. */
-static int inspect(const struct piece *piece, size_t guard, const char *where, const char *name)
+static int inspect(const struct piece *piece, int run, size_t guard, const char *where, const char *name)
 {
+    const uint8_t *due = piece->after != NULL ? piece->after : piece->before;
     for (size_t i = 0; i < guard; i++)
         if (piece->block[i] != GUARD || piece->at[piece->len + i] != GUARD) {
             printf("%s: wrote outside %s\n", where, name);
             return 0;
         }
-    for (size_t i = 0; i < piece->len; i++)
-        if (piece->at[i] != piece->after[i]) {
-            printf("%s: %s holds %u at %zu, not %u\n", where, name, piece->at[i], i, piece->after[i]);
+    for (size_t i = 0; i < piece->len; i++) {
+        uint8_t expected = due != NULL ? due[i] : fill(run, i);
+        if (piece->at[i] != expected) {
+            printf("%s: %s holds %u at %lu, not %u\n", where, name, piece->at[i], (unsigned long)i, expected);
             return 0;
         }
+    }
     return 1;
 }
 
-static uint32_t call(const struct record *r)
-{
-    const struct piece *p = r->pieces;
-    switch (r->call) {
-    case CHECK_TABLE:
-        return qmtd_check_table(r->q, r->k, p[TABLE].at, p[TABLE].len);
-    case ENCODE:
-        return qmtd_encode(r->q, r->k, p[TABLE].at, p[TABLE].len, p[INPUT].at, p[INPUT].len, p[FIRST].at, p[FIRST].len);
-    case SYNDROME:
-        return qmtd_syndrome(r->q, r->k, p[TABLE].at, p[TABLE].len, p[INPUT].at, p[INPUT].len,
-                             p[FIRST].at, p[FIRST].len);
-    default:
-        return qmtd_decode(r->q, r->k, p[TABLE].at, p[TABLE].len, p[INPUT].at, p[INPUT].len,
-                           p[THRESHOLDS].at, p[THRESHOLDS].len, p[FIRST].at, p[FIRST].len, p[SECOND].at, p[SECOND].len,
-                           p[THIRD].at, p[THIRD].len, p[COUNTS].at, p[COUNTS].len);
-    }
-}
-
 /* Runs the record once. Was all as expected? */
-static int run(struct record record, size_t index, const uint8_t *pattern, size_t guard)
+static int run_once(struct record *record, const char *where, int run, size_t guard)
 {
-    char where[80];
-    snprintf(where, sizeof where, "record %zu, group %u, %s", index, (unsigned)record.group, call_names[record.call]);
+    for (size_t i = 0; i < record->piece_count; i++)
+        lend(&record->pieces[i], run, guard);
 
-    for (int i = TABLE; i < PIECES; i++) {
-        struct piece *piece = &record.pieces[i];
-        piece->before = i <= THRESHOLDS ? piece->after : pattern;
-        if (piece->after == NULL)
-            piece->after = pattern;
-        lend(piece, guard);
-    }
+    uint32_t number = record->call->make(record->numbers, record->pieces);
 
-    uint32_t number = call(&record);
-
-    int right = number == record.number;
+    int right = number == record->number;
     if (!right)
-        printf("%s: returned %u, not %u\n", where, (unsigned)number, (unsigned)record.number);
-    for (int i = TABLE; i < PIECES; i++) {
-        right &= inspect(&record.pieces[i], guard, where, piece_names[record.call][i]);
-        free(record.pieces[i].block);
+        printf("%s: returned %lu, not %lu\n", where, (unsigned long)number, (unsigned long)record->number);
+    for (size_t i = 0; i < record->piece_count; i++) {
+        right &= inspect(&record->pieces[i], run, guard, where, record->call->pieces[i]);
+        free(record->pieces[i].block);
     }
     return right;
+}
+
+struct group {
+    char name[64];
+    unsigned long pages, run, wrong;
+};
+
+static void open_group(struct group *group, const struct piece *name)
+{
+    *group = (struct group){.pages = 0};
+    memcpy(group->name, name->before, name->len < sizeof group->name ? name->len : sizeof group->name - 1);
+}
+
+static void close_group(const struct group *group, struct group *all)
+{
+    if (group->pages == 0)
+        return;
+    printf("%-36s %3lu pages, %lu wrong\n", group->name, group->run, group->wrong);
+    all->run += group->run;
+    all->wrong += group->wrong;
+}
+
+static void run_page(struct group *group, struct record *record)
+{
+    char where[128];
+    snprintf(where, sizeof where, "%s, page %lu, %s", group->name, group->pages, record->call->name);
+    int guarded = run_once(record, where, 0, GUARD_LEN);
+    int exact = run_once(record, where, 1, 0);
+    group->wrong += !(guarded && exact);
+    group->run++;
 }
 
 static uint8_t *read_file(const char *name, size_t *len)
@@ -179,39 +231,31 @@ int main(int argc, char **argv)
 {
     size_t len = 0;
     uint8_t *bytes = argc > 1 ? read_file(argv[1], &len) : NULL;
-    size_t stride = argc > 2 ? strtoul(argv[2], NULL, 10) : 1;
+    unsigned long stride = argc > 2 ? strtoul(argv[2], NULL, 10) : 1;
     if (bytes == NULL || stride == 0) {
         fprintf(stderr, "pages FILE [STRIDE]\n");
         return 2;
     }
     setvbuf(stdout, NULL, _IONBF, 0); /* what was found is shown even if the archive crashes the program */
-    for (size_t i = 0; i < MAX_PIECE; i++) {
-        patterns[0][i] = (uint8_t)(0xA5 + 29 * i);
-        patterns[1][i] = (uint8_t)~patterns[0][i];
-    }
 
-    unsigned pages[GROUPS] = {0}, all = 0, wrong = 0;
-    size_t index = 0;
-    for (size_t at = 0; at < len; index++) {
+    struct reader file = {bytes, len, 0};
+    struct group group = {.pages = 0}, all = {.pages = 0};
+    while (file.left > 0) {
         struct record record;
-        size_t record_len = read_record(bytes + at, len - at, &record);
-        if (record_len == 0) {
-            printf("record %zu is malformed\n", index);
+        if (!take_record(&file, &record)) {
+            printf("%s: the record after page %lu is malformed, or of a call that is not known here\n",
+                   group.name, group.pages);
             return 1;
         }
-        at += record_len;
-        if (index % stride != 0)
-            continue;
-        int guarded = run(record, index, patterns[0], GUARD_LEN);
-        int exact = run(record, index, patterns[1], 0);
-        wrong += !(guarded && exact);
-        pages[record.group]++;
-        all++;
+        if (record.call == &calls[OPEN_GROUP]) {
+            close_group(&group, &all);
+            open_group(&group, &record.pieces[0]);
+        } else if (group.pages++ % stride == 0) {
+            run_page(&group, &record);
+        }
     }
+    close_group(&group, &all);
     free(bytes);
-
-    for (unsigned group = 1; group < GROUPS; group++)
-        printf("group %2u  %-36s %3u pages\n", group, group_names[group], pages[group]);
-    printf("%u pages, %u wrong\n", all, wrong);
-    return wrong == 0 && all > 0 ? 0 : 1;
+    printf("%lu pages, %lu wrong\n", all.run, all.wrong);
+    return all.wrong == 0 && all.run > 0 ? 0 : 1;
 }

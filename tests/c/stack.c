@@ -5,7 +5,6 @@
 
 #include <stdio.h>
 #include <string.h>
-#include <ucontext.h>
 
 enum { K = QMTD_MAX_K, J = 10, STACK = 65536, FILL = 0xA7, ALLOWED = 8192 };
 
@@ -14,8 +13,7 @@ static const uint8_t table[QMTD_TABLE_LEN(J)] = {0, 0, 1, 0, 6, 0, 10, 0, 23, 0,
 static const uint8_t thresholds[] = {2, 1, 0, 0};
 
 static uint8_t data[K], page[QMTD_PAGE_LEN(K)], result[K], syndrome[K], difference[K], counts[QMTD_COUNTS_LEN];
-static uint8_t stack[STACK];
-static ucontext_t caller, callee;
+static uint8_t stack[STACK] __attribute__((aligned(16)));
 static uint32_t number;
 
 static void check_table(void)
@@ -44,15 +42,41 @@ static void idle(void)
     number = QMTD_OK;
 }
 
-static size_t used_by(void (*call)(void))
+/* Makes a call on the stack above. */
+static void on_stack(void (*call)(void));
+
+#if defined(__ARM_ARCH_PROFILE) && __ARM_ARCH_PROFILE == 'M'
+
+static void on_stack(void (*call)(void))
 {
-    memset(stack, FILL, sizeof stack);
+    /* r4 keeps the caller's stack; every function leaves it as it was. */
+    __asm__ volatile("mov r4, sp\n\tmov sp, %0\n\tblx %1\n\tmov sp, r4"
+                     :
+                     : "r"(stack + sizeof stack), "r"(call)
+                     : "r0", "r1", "r2", "r3", "r4", "r12", "lr", "cc", "memory");
+}
+
+#else
+
+#include <ucontext.h>
+
+static void on_stack(void (*call)(void))
+{
+    static ucontext_t caller, callee;
     getcontext(&callee);
     callee.uc_stack.ss_sp = stack;
     callee.uc_stack.ss_size = sizeof stack;
     callee.uc_link = &caller;
     makecontext(&callee, call, 0);
     swapcontext(&caller, &callee);
+}
+
+#endif
+
+static size_t used_by(void (*call)(void))
+{
+    memset(stack, FILL, sizeof stack);
+    on_stack(call);
     size_t free_bytes = 0;
     while (free_bytes < sizeof stack && stack[free_bytes] == FILL)
         free_bytes++;
@@ -71,7 +95,7 @@ int main(void)
         data[i] = (uint8_t)(i % 251);
     for (size_t i = 0; i < sizeof calls / sizeof calls[0]; i++) {
         size_t used = used_by(calls[i].call) - around;
-        printf("%-12s %zu bytes of stack\n", calls[i].name, used);
+        printf("%-12s %lu bytes of stack\n", calls[i].name, (unsigned long)used);
         wrong |= number != QMTD_OK || used > ALLOWED;
         if (calls[i].call == encode)
             for (size_t at = 0; at < sizeof page; at += 100)

@@ -1,7 +1,7 @@
 """Prints the tables of docs/TABLES.md: a line is `k: p p p ..`. Each is tried with the reference program first."""
 
 import reference as ref
-from make_pages import greedy, singer
+from codes import greedy, singer
 
 PRIMES = [2, 3, 5, 7, 11, 13, 17, 19, 23, 29, 31]
 

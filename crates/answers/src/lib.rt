@@ -2,7 +2,7 @@
 use params::Params;
 ghost use mathlib.Core.Path.{_≡_};
 ghost use mathlib.Core.Bool.{_&&_};
-ghost use Prim.Native.Nat.{_+_, _≤_};
+ghost use Prim.Native.Nat.{_+_};
 ghost use lib.Dec.{eqb};
 ghost use Rattle.model.specs.Calls.{firstThatApplies, pageTests, thresholdTests, decodeAnswer};
 ghost use Rattle.params.specs.Codes.{codeBy};
@@ -26,14 +26,16 @@ pub fn decode_fits(
     syndrome: usize,
     difference: usize,
 ) -> bool
-    requires { ⌜ code .k ≤ 4294967295 ⌝ }
     ensures { λ r. ⌜ r ≡ (others && (eqb page (code .k + code .k) && (eqb result (code .k) && (eqb syndrome (code .k) && eqb difference (code .k))))) ⌝ }
 {
     if !others {
         return false;
     }
     let k = code.k;
-    if page != k + k {
+    if page < k {
+        return false;
+    }
+    if page - k != k {
         return false;
     }
     if result != k {

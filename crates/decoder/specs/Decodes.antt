@@ -1,36 +1,37 @@
--- Decoding a whole page: what opening needs, the run from an opened page, and a page at distance 0.
-use mathlib.Core.Path.{_≡_, refl, ap, sym, _∙_, subst}
-use mathlib.Core.Logic.{_≢_}
-use mathlib.Core.Bool.{true, false, _&&_}
+-- Decoding a whole page: the opened page, the run of passes from it, and a page at distance 0.
+use mathlib.Core.Path.{_≡_, refl, ap, sym, _∙_}
 use mathlib.Core.List.{List, [], _∷_, append-nil}
 use Prim.Native.Nat.{ℕ, zero, suc, _+_, _≤_, _<_}
 use native.Mathlib.Omega.{arith}
-use lib.Dec.{T, eqb, eqb→eq}
 use lib.ListN.{length}
-use Rattle.model.specs.Calls.{stateFits, decodeAnswer, Decoded, decodeOutcome}
-use Rattle.model.specs.Code.{Code, dataCount, checkCount, pageLength, checksOf, dataOf, syndrome, SelfOrthogonal}
-use Rattle.model.specs.Decoder.{State, Visit, changes, after, changeCount, pass, passes, thresholdsRun, dataSymbols, opened, passesOf, run, distanceTo, Counts, decodedState, decodedCounts}
+use Rattle.model.specs.Code.{Code, dataCount, checksOf, dataOf, syndrome}
+use Rattle.model.specs.Decoder.{State, stateBy, Visit, after, changeCount, pass, passes, thresholdsRun, dataSymbols, opened, passesOf, run, distanceTo, Counts, decodedState, decodedCounts}
 use Rattle.model.specs.Symbols.{weight, tabulate}
-use Rattle.theory.specs.Answers.{and-true, Limits, decode-accepted, page-symbols}
-use Rattle.theory.specs.Counting.{eqb-yes, eqb-no, differ-no, zeros-weight}
-use Rattle.theory.specs.Decoding.{range-pass, symbols-range, code-incidence, in-range, code-opened-sized, code-distance}
+use Rattle.theory.specs.Answers.{Opens}
+use Rattle.theory.specs.Codes.{ByteCode, code-incidence}
+use Rattle.theory.specs.Counting.{eqb-yes, differ-no, zeros-weight}
+use Rattle.theory.specs.Decoding.{code-opened-sized, code-distance}
 use Rattle.theory.specs.Falling.{after-sized, idle-after}
-use Rattle.theory.specs.Steps.{SymbolsBelow, stateWeight}
-use Rattle.theory.specs.Tables.{orthogonal-test}
-use Rattle.passes.specs.Progress.{Progress, ran, runOf, visits, Ready}
-use Rattle.counts.specs.declared.Tally.{Tally}
+use Rattle.theory.specs.Runs.{range-pass, range-passes, symbols-range}
+use Rattle.theory.specs.Steps.{stateWeight}
+use Rattle.passes.specs.Runs.{ran, runOf}
+use Rattle.visits.specs.Progress.{Progress, Ready}
+use Rattle.tally.specs.declared.Tally.{Tally}
 
--- what a decode that is not refused works on
-pub record Opens (c : Code) (page r s d : List ℕ) : Type 0 where
-  pub limits : Limits c
-  pub orthogonal : SelfOrthogonal c
-  pub whole : SymbolsBelow (c .q) (pageLength c) page
-  pub len-result : length r ≡ dataCount c
-  pub len-syndrome : length s ≡ checkCount c
-  pub len-difference : length d ≡ dataCount c
-
+-- the counts as the tally has them, and back
 abbrev pub tallyOf : Counts → Tally
 tallyOf n = record { passes = n .passes; changes = n .changes; start = n .start; end = n .end }
+
+abbrev pub countsOf : Tally → Counts
+countsOf t = record { passes = t .passes; changes = t .changes; start = t .start; end = t .end }
+
+-- what decoding a page hands back
+abbrev pub decoded : Code → List ℕ → List ℕ → Progress
+decoded c ts page = record { state = decodedState c ts page; tally = tallyOf (decodedCounts c ts page) }
+
+-- an opened page before the first pass, at distance n
+abbrev pub startAt : Code → List ℕ → ℕ → Progress
+startAt c page n = record { state = opened c page; tally = record { passes = 0; changes = 0; start = n; end = n } }
 
 -- ---- single facts
 
@@ -52,31 +53,9 @@ decoded-by : (c : Code) (ts page : List ℕ) (vs : List Visit) → run c ts page
 unfolding decodedState
 decoded-by c ts page vs e = ap (λ (ws : List Visit). after (c .q) (checksOf c) ws (opened c page)) e
 
-pub opened-by : (c : Code) (page r s d : List ℕ) → r ≡ dataOf c page → s ≡ syndrome c page → d ≡ tabulate (dataCount c) (λ i. 0)
-    → _≡_ {A = State} (record { result = r; syndrome = s; difference = d }) (opened c page)
+pub opened-by : (c : Code) (page r s d : List ℕ) → r ≡ dataOf c page → s ≡ syndrome c page → d ≡ tabulate (dataCount c) (λ i. 0) → stateBy r s d ≡ opened c page
 unfolding opened
 opened-by c page r s d e f g = λ i. record { result = e i; syndrome = f i; difference = g i }
-
-state-weight : (st : State) → weight (st .difference) + weight (st .syndrome) ≡ stateWeight st
-unfolding stateWeight
-state-weight st = refl
-
--- what the run leaves, and its counts
-module _ (c : Code) (ts page : List ℕ) (x : Progress) (n : ℕ)
-    (f : x ≡ runOf c ts (record { state = opened c page; tally = record { passes = 0; changes = 0; start = n; end = n } })) where
-  run-state : x .state ≡ decodedState c ts page
-  unfolding runOf ran decodedState run passesOf
-  run-state = ap (λ (y : Progress). y .state) f
-
-  run-passes : x .tally .passes ≡ length (passesOf c ts page)
-  unfolding runOf ran passesOf
-  run-passes = ap (λ (y : Progress). y .tally .passes) f ∙ (let z : 0 + length (passesOf c ts page) ≡ length (passesOf c ts page) = omega arith in z)
-
-  run-changes : x .tally .changes ≡ changeCount (c .q) (checksOf c) (run c ts page) (opened c page)
-  unfolding runOf ran run passesOf
-  run-changes =
-      ap (λ (y : Progress). y .tally .changes) f
-      ∙ (let z : 0 + changeCount (c .q) (checksOf c) (run c ts page) (opened c page) ≡ changeCount (c .q) (checksOf c) (run c ts page) (opened c page) = omega arith in z)
 
 -- a weight is at most the length, so that the sum of two fits
 pub weights-small : (xs ys : List ℕ) → length xs ≤ 4096 → length ys ≤ 4096 → weight xs + weight ys ≤ 8192
@@ -84,13 +63,16 @@ weights-small xs ys a b = omega (arith, zeros-weight xs, zeros-weight ys)
 
 -- ---- the opened page
 
-module _ (c : Code) (page : List ℕ) (l : Limits c) (o : SelfOrthogonal c) (w : SymbolsBelow (c .q) (pageLength c) page) where
+module _ (c : Code) (page : List ℕ) (lent : State) (o : Opens c page lent) where
+  pub opens-bytes : ByteCode c
+  opens-bytes = record { q-low = o .usable .q-low; q-high = o .bytes; table = o .usable .table }
+
   pub opened-ready : Ready c (opened c page)
-  opened-ready = record { limits = l; orthogonal = o; sized = code-opened-sized c l o page w [] }
+  opened-ready = record { usable = o .usable; bytes = o .bytes; sized = code-opened-sized c (o .usable) page (o .whole) }
 
   opened-weight : distanceTo c page (opened c page) ≡ stateWeight (opened c page)
   unfolding after
-  opened-weight = code-distance c l o page w [] [] tt
+  opened-weight = code-distance c (o .usable) page (o .whole) [] tt
 
   -- the distance at the start is the weight of the syndrome
   pub opened-distance : weight (syndrome c page) ≡ distanceTo c page (opened c page)
@@ -98,21 +80,22 @@ module _ (c : Code) (page : List ℕ) (l : Limits c) (o : SelfOrthogonal c) (w :
   opened-distance = sym (opened-weight ∙ omega (arith, weight-zeros (dataCount c)))
 
   -- after the run the distance is the weight of D and S
-  pub decoded-distance : (ts : List ℕ) → stateWeight (decodedState c ts page) ≡ distanceTo c page (decodedState c ts page)
-  unfolding decodedState
-  decoded-distance ts = sym (code-distance c l o page w ts (run c ts page) (in-range c l o page w ts))
+  decoded-distance : (ts : List ℕ) → stateWeight (decodedState c ts page) ≡ distanceTo c page (decodedState c ts page)
+  unfolding decodedState run
+  decoded-distance ts =
+      sym (code-distance c (o .usable) page (o .whole) (run c ts page) (range-passes (dataCount c) (dataSymbols c) (symbols-range c) (passesOf c ts page)))
 
   -- a page at distance 0: its one pass is idle
   pub clean-decoded : distanceTo c page (opened c page) ≡ 0 → (ts : List ℕ) → 0 < length ts
-      → _≡_ {A = Progress} (record { state = opened c page; tally = record { passes = 1; changes = 0; start = 0; end = 0 } })
-      (record { state = decodedState c ts page; tally = tallyOf (decodedCounts c ts page) })
+      → _≡_ {A = Progress} (record { state = opened c page; tally = record { passes = 1; changes = 0; start = 0; end = 0 } }) (decoded c ts page)
   unfolding passesOf decodedCounts
   clean-decoded z [] h = absurd (omega arith)
   clean-decoded z (t ∷ ts) h =
       let q : ℕ = c .q in
       let js : List ℕ = dataSymbols c in
       let st : State = opened c page in
-      let i = idle-after (code-incidence c l o) (pass js t) (range-pass (dataCount c) js t (symbols-range c)) st (code-opened-sized c l o page w []) (sym opened-weight ∙ z) in
+      let i = idle-after (code-incidence c (o .usable)) (pass js t) (range-pass (dataCount c) js t (symbols-range c)) st (opened-ready .sized)
+      (sym opened-weight ∙ z) in
       let one : passesOf c (t ∷ ts) page ≡ t ∷ [] = idle-thresholds q (checksOf c) js t ts st (i .1) in
       let visits : run c (t ∷ ts) page ≡ pass js t = run-one c (t ∷ ts) page t one in
       let left : decodedState c (t ∷ ts) page ≡ st = decoded-by c (t ∷ ts) page (pass js t) visits ∙ i .0 in
@@ -126,79 +109,43 @@ module _ (c : Code) (page : List ℕ) (l : Limits c) (o : SelfOrthogonal c) (w :
         };
       }
 
--- the run of the passes from the opened page is the decode: e is the weight of D and S that it leaves
-pub run-decoded : (c : Code) (page r s d : List ℕ) → Opens c page r s d → (ts : List ℕ) (n e : ℕ) (x : Progress)
-    → x ≡ runOf c ts (record { state = opened c page; tally = record { passes = 0; changes = 0; start = n; end = n } })
-    → n ≡ distanceTo c page (opened c page) → e ≡ weight (x .state .difference) + weight (x .state .syndrome)
-    → _≡_ {A = Progress} (record { state = x .state; tally = record { passes = x .tally .passes; changes = x .tally .changes; start = x .tally .start; end = e } })
-    (record { state = decodedState c ts page; tally = tallyOf (decodedCounts c ts page) })
-unfolding runOf ran decodedCounts
-run-decoded c page r s d h ts n e x f g w =
-    let left : x .state ≡ decodedState c ts page = run-state c ts page x n f in
-    λ o. record {
-      state = left o;
+  -- ---- the run of the passes from it
+
+  module _ (ts : List ℕ) (n : ℕ) (x : Progress) (f : x ≡ runOf c ts (startAt c page n)) where
+    run-state : x .state ≡ decodedState c ts page
+    unfolding runOf ran decodedState run passesOf
+    run-state = ap (λ (y : Progress). y .state) f
+
+    run-passes : x .tally .passes ≡ length (passesOf c ts page)
+    unfolding runOf ran passesOf
+    run-passes = ap (λ (y : Progress). y .tally .passes) f ∙ (let z : 0 + length (passesOf c ts page) ≡ length (passesOf c ts page) = omega arith in z)
+
+    run-changes : x .tally .changes ≡ changeCount (c .q) (checksOf c) (run c ts page) (opened c page)
+    unfolding runOf ran run passesOf
+    run-changes =
+        ap (λ (y : Progress). y .tally .changes) f
+        ∙ (let z : 0 + changeCount (c .q) (checksOf c) (run c ts page) (opened c page) ≡ changeCount (c .q) (checksOf c) (run c ts page) (opened c page) = omega arith in z)
+
+    -- what it leaves has the lengths that it found
+    pub run-lengths : (length (x .state .difference) ≤ 4096) × (length (x .state .syndrome) ≤ 4096)
+    unfolding runOf ran
+    run-lengths =
+        let z = after-sized (code-incidence c (o .usable)) (passes (dataSymbols c) (thresholdsRun (c .q) (checksOf c) (dataSymbols c) ts (opened c page)))
+        (opened c page) (opened-ready .sized) in
+        let k = o .usable .table .k-high in
+        rw f (omega (arith, z .len-difference, k), omega (arith, z .len-syndrome, k))
+
+    -- it is the decode: e is the weight of D and S that it leaves
+    pub run-decoded : (e : ℕ) → n ≡ distanceTo c page (opened c page) → e ≡ weight (x .state .difference) + weight (x .state .syndrome)
+        → _≡_ {A = Progress} (record { state = x .state; tally = record { passes = x .tally .passes; changes = x .tally .changes; start = x .tally .start; end = e } })
+        (decoded c ts page)
+    unfolding runOf ran decodedCounts stateWeight
+    run-decoded e g w = λ i. record {
+      state = run-state i;
       tally = record {
-        passes = (run-passes c ts page x n f) o;
-        changes = (run-changes c ts page x n f) o;
-        start = (ap (λ (y : Progress). y .tally .start) f ∙ g) o;
-        end = (w ∙ state-weight (x .state) ∙ ap stateWeight left ∙ decoded-distance c page (h .limits) (h .orthogonal) (h .whole) ts) o;
+        passes = run-passes i;
+        changes = run-changes i;
+        start = (ap (λ (y : Progress). y .tally .start) f ∙ g) i;
+        end = (w ∙ ap stateWeight run-state ∙ decoded-distance ts) i;
       };
     }
-
--- what it leaves has the lengths that it found
-pub run-lengths : (c : Code) (p x : Progress) (ts : List ℕ) → Ready c (p .state) → x ≡ runOf c ts p → (length (x .state .difference) ≤ 4096) × (length (x .state .syndrome) ≤ 4096)
-unfolding runOf ran
-run-lengths c p x ts r e =
-    let z = after-sized (code-incidence c (r .limits) (r .orthogonal)) (passes (dataSymbols c) (thresholdsRun (c .q) (checksOf c) (dataSymbols c) ts (p .state)))
-    (p .state) (r .sized) in
-    rw e (omega (arith, z .len-difference, r .limits .k-high), omega (arith, z .len-syndrome, r .limits .k-high))
-
--- ---- the call
-
-lengths-of : (c : Code) (r s d : ℕ) → stateFits c r s d ≡ true → (r ≡ dataCount c) × (s ≡ checkCount c) × (d ≡ dataCount c)
-unfolding stateFits
-lengths-of c r s d e =
-    let a = and-true (eqb r (dataCount c)) (eqb s (checkCount c) && eqb d (dataCount c)) e in
-    let b = and-true (eqb s (checkCount c)) (eqb d (dataCount c)) (a .1) in
-    (eqb→eq r (dataCount c) (subst T (sym (a .0)) tt), eqb→eq s (checkCount c) (subst T (sym (b .0)) tt), eqb→eq d (dataCount c) (subst T (sym (b .1)) tt))
-
--- what a decode that is not refused works on
-pub decode-opens : (c : Code) (page ts r s d : List ℕ) → decodeAnswer c page ts (length r) (length s) (length d) ≡ 0
-    → Opens c page r s d × (0 < length ts) × (length ts ≤ 64)
-decode-opens c page ts r s d e =
-    let f = decode-accepted c page ts (length r) (length s) (length d) e in
-    let b = lengths-of c (length r) (length s) (length d) (and-true (eqb (length page) (pageLength c)) (stateFits c (length r) (length s) (length d)) (f .fits .buffers) .1) in (
-      record {
-        limits = f .fits .limits;
-        orthogonal = orthogonal-test c .0 (f .fits .orthogonal);
-        whole = page-symbols c page (length r) (length s) (length d) (f .fits);
-        len-result = b .0;
-        len-syndrome = b .1;
-        len-difference = b .2;
-      },
-      f .some,
-      f .few,
-    )
-
-abbrev pub countsOf : Tally → Counts
-countsOf t = record { passes = t .passes; changes = t .changes; start = t .start; end = t .end }
-
--- what it leaves, refused and done
-module _ (c : Code) (page ts r s d : List ℕ) where
-  pub decode-left : (n : ℕ) (t : Tally) → n ≡ decodeAnswer c page ts (length r) (length s) (length d) → n ≢ 0 → t ≡ record { passes = 0; changes = 0; start = 0; end = 0 }
-      → _≡_ {A = Decoded} (record { number = n; counts = countsOf t; state = record { result = r; syndrome = s; difference = d } })
-      (decodeOutcome c page ts (record { result = r; syndrome = s; difference = d }))
-  unfolding decodeOutcome
-  decode-left n t e z f =
-      let m : ℕ = decodeAnswer c page ts (length r) (length s) (length d) in
-      let b : eqb m 0 ≡ false = eqb-no m 0 (λ y. z (e ∙ y)) in
-      rw b (λ i. record { number = e i; counts = countsOf (f i); state = record { result = r; syndrome = s; difference = d } })
-
-  pub decode-done : (x : Progress) → 0 ≡ decodeAnswer c page ts (length r) (length s) (length d)
-      → x ≡ record { state = decodedState c ts page; tally = tallyOf (decodedCounts c ts page) }
-      → _≡_ {A = Decoded} (record { number = 0; counts = countsOf (x .tally); state = x .state })
-      (decodeOutcome c page ts (record { result = r; syndrome = s; difference = d }))
-  unfolding decodeOutcome
-  decode-done x e f =
-      let b : eqb (decodeAnswer c page ts (length r) (length s) (length d)) 0 ≡ true = eqb-yes (decodeAnswer c page ts (length r) (length s) (length d)) 0 (sym e) in
-      rw b (λ i. record { number = e i; counts = countsOf (f i .tally); state = f i .state })

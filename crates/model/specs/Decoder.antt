@@ -15,6 +15,9 @@ pub record State : Type 0 where
   pub syndrome : List ℕ
   pub difference : List ℕ
 
+abbrev pub stateBy : List ℕ → List ℕ → List ℕ → State
+stateBy r s d = record { result = r; syndrome = s; difference = d }
+
 -- a visit to a data symbol, with its pass's threshold
 pub record Visit : Type 0 where
   pub symbol : ℕ

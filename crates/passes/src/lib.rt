@@ -5,9 +5,10 @@ ghost use mathlib.Core.Path.{_≡_};
 ghost use Prim.Native.Nat.{_≤_};
 ghost use lib.ListN.{length};
 ghost use Rattle.model.specs.Code.{dataCount};
+ghost use Rattle.model.specs.Decoder.{stateBy};
 ghost use Rattle.params.specs.Codes.{codeBy};
 ghost use Rattle.zeros.specs.Counts.{zeroCounts};
-ghost use Rattle.visits.specs.Progress.{progress, stateBy, Ready};
+ghost use Rattle.visits.specs.Progress.{progress, Ready};
 ghost use Rattle.passes.specs.Runs.{runOf};
 
 // Passes with the thresholds in order, until a whole pass changes nothing or the thresholds are used up.

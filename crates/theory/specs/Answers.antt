@@ -213,14 +213,18 @@ pub decode-passed : (c : Code) (fits : Bool) (page thresholds : List ℕ) → fi
 unfolding decodeAnswer pageTests tableTests sizeTests
 decode-passed c fits page ts e = passed-first (pageTests c fits page) (thresholdTests ts) refl e
 
--- what decode takes, whatever other buffers a form of the call lends
-pub record Taken (c : Code) (page thresholds : List ℕ) (lent : State) : Type 0 where
+-- what is opened: a page of symbols, whole, and three lent buffers of the right lengths
+pub record Opens (c : Code) (page : List ℕ) (lent : State) : Type 0 where
   pub usable : Usable c
   pub bytes : c .q ≤ 256
   pub whole : SymbolsBelow (c .q) (pageLength c) page
   pub len-result : length (lent .result) ≡ dataCount c
   pub len-syndrome : length (lent .syndrome) ≡ checkCount c
   pub len-difference : length (lent .difference) ≡ dataCount c
+
+-- what decode takes, whatever other buffers a form of the call lends
+pub record Taken (c : Code) (page thresholds : List ℕ) (lent : State) : Type 0 where
+  pub opens : Opens c page lent
   pub some : 1 ≤ length thresholds
   pub few : length thresholds ≤ 64
 
@@ -235,12 +239,14 @@ decode-taken c others page ts lent e =
     let r = and-true (eqb (length (lent .result)) (dataCount c)) _ (b .1) in
     let s = and-true (eqb (length (lent .syndrome)) (checkCount c)) (eqb (length (lent .difference)) (dataCount c)) (r .1) in
     record {
-      usable = f .usable;
-      bytes = f .limits .q-high;
-      whole = record { len = eqb-true (length page) (pageLength c) (b .0); low = f .symbols };
-      len-result = eqb-true (length (lent .result)) (dataCount c) (r .0);
-      len-syndrome = eqb-true (length (lent .syndrome)) (checkCount c) (s .0);
-      len-difference = eqb-true (length (lent .difference)) (dataCount c) (s .1);
+      opens = record {
+        usable = f .usable;
+        bytes = f .limits .q-high;
+        whole = record { len = eqb-true (length page) (pageLength c) (b .0); low = f .symbols };
+        len-result = eqb-true (length (lent .result)) (dataCount c) (r .0);
+        len-syndrome = eqb-true (length (lent .syndrome)) (checkCount c) (s .0);
+        len-difference = eqb-true (length (lent .difference)) (dataCount c) (s .1);
+      };
       some = w .0;
       few = w .1;
     }

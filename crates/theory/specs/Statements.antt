@@ -115,20 +115,20 @@ module _ (c : Code) (others : Bool) (page thresholds : List ℕ) (lent : State) 
   pub decode-falls : DecodeFalls c thresholds page (decodedCounts c thresholds page)
   unfolding decodedCounts decodedState
   decode-falls =
-      let f = code-falls c (what .usable) page (what .whole) (run c thresholds page) range in
+      let f = code-falls c (what .opens .usable) page (what .opens .whole) (run c thresholds page) range in
       record { falls = f; total = f .total }
 
   -- Demand 3, second half.
   pub decode-recovers : DecodeRecovers c thresholds page (decodedState c thresholds page .result)
   unfolding decodedState run passesOf
   decode-recovers =
-      code-recovers c (what .usable) page (what .whole) (dataSymbols c) (symbols-range c) (symbols-visited c) (passesOf c thresholds page) (getD thresholds 0 0)
+      code-recovers c (what .opens .usable) page (what .opens .whole) (dataSymbols c) (symbols-range c) (symbols-visited c) (passesOf c thresholds page) (getD thresholds 0 0)
       (first-run (c .q) (checksOf c) (dataSymbols c) thresholds (opened c page) (what .some))
 
   pub counts-bounded : Bounded (decodedCounts c thresholds page)
   unfolding decodedCounts decodedState run passesOf after
   counts-bounded =
-      let l = what .usable in
+      let l = what .opens .usable in
       let js : List ℕ = dataSymbols c in
       let n : length js ≤ 4096 = omega (arith, length-tabulate (dataCount c) (λ j. j), l .table .k-high) in
       let few : length (passesOf c thresholds page) ≤ length thresholds = runs-few (c .q) (checksOf c) js thresholds (opened c page) in
@@ -142,9 +142,9 @@ module _ (c : Code) (others : Bool) (page thresholds : List ℕ) (lent : State) 
       at-most : (vs : List Visit) → InRange (dataCount c) vs → distanceTo c page (after (c .q) (checksOf c) vs (opened c page)) ≤ 8192
       at-most vs r = omega (
         arith,
-        code-distance c (what .usable) page (what .whole) vs r,
-        weight-few (c .q) (dataCount c) (checkCount c) _ (code-sized c (what .usable) page (what .whole) vs),
-        what .usable .table .k-high,
+        code-distance c (what .opens .usable) page (what .opens .whole) vs r,
+        weight-few (c .q) (dataCount c) (checkCount c) _ (code-sized c (what .opens .usable) page (what .opens .whole) vs),
+        what .opens .usable .table .k-high,
       )
 
 -- ---- 4. the vote

@@ -7,7 +7,7 @@ use Prim.Native.Nat.{ℕ, _+_, _≤_, _<_}
 use native.Mathlib.Omega.{arith}
 use lib.ListN.{length, getD, set}
 use Rattle.model.specs.Code.{Code, dataCount, checkCount, checksOf}
-use Rattle.model.specs.Decoder.{State, Visit, estimates, change, changes, visit}
+use Rattle.model.specs.Decoder.{State, Visit, estimates, change, changes, visit, stateBy}
 use Rattle.model.specs.Symbols.{sub, bit, subtractAt}
 use Rattle.theory.specs.Codes.{Usable}
 use Rattle.theory.specs.Falling.{visit-no, visit-yes}
@@ -22,9 +22,6 @@ pub record Progress : Type 0 where
   pub tally : Tally
 
 -- by the three buffers
-abbrev pub stateBy : List ℕ → List ℕ → List ℕ → State
-stateBy r s d = record { result = r; syndrome = s; difference = d }
-
 abbrev pub progress : List ℕ → List ℕ → List ℕ → Tally → Progress
 progress r s d t = record { state = stateBy r s d; tally = t }
 

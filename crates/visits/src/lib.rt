@@ -6,14 +6,14 @@ ghost use mathlib.Core.Path.{_≡_};
 ghost use Prim.Native.Nat.{_+_, _<_, _≤_};
 ghost use lib.ListN.{length, getD, set};
 ghost use Rattle.model.specs.Code.{dataCount, checksOf};
-ghost use Rattle.model.specs.Decoder.{change};
+ghost use Rattle.model.specs.Decoder.{stateBy, change};
 ghost use Rattle.model.specs.Symbols.{sub, count, symbolsAt};
 ghost use Rattle.params.specs.Codes.{codeBy};
 ghost use Rattle.vote.specs.Leading.{voteOf};
 ghost use Rattle.checks.specs.Checks.{AtChecks, estimatesAt};
 ghost use Rattle.zeros.specs.Counts.{zeroCounts};
 ghost use Rattle.visits.specs.Decisions.{toSubtract};
-ghost use Rattle.visits.specs.Progress.{progress, stateBy, Ready, visitOf};
+ghost use Rattle.visits.specs.Progress.{progress, Ready, visitOf};
 
 // The vote over the estimates of data symbol j, whose own difference is given.
 pub fn vote_at(code: Params, positions: &[u16], j: usize, own: u8, s: &[u8]) -> Vote

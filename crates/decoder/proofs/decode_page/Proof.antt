@@ -1,13 +1,24 @@
--- `decoder::decode_page` meets its contract.
+-- `decode_page`: the page is opened; at distance 0 its one pass is idle, else the passes run from the opened page are the decode.
 use borrow.Author.Needs.{needs}
 use mathlib.Core.Path.{refl, sym, _∙_, ap, subst}
-use Rattle.model.specs.Code.{codeOf}
-use Rattle.model.specs.Decoder.{State, opened}
-use Rattle.counts.specs.declared.Tally.{Tally}
-use Rattle.passes.specs.Progress.{Ready, runOf, both}
+use Rattle.model.specs.Decoder.{State}
+use Rattle.params.specs.Codes.{codeBy}
+use Rattle.tally.specs.declared.Tally.{Tally}
+use Rattle.visits.specs.Progress.{Ready, both}
+use Rattle.passes.specs.Runs.{runOf}
 use Rattle.decoder.specs.Decodes.{opened-ready, clean-decoded, run-decoded, run-lengths}
 use Rattle.decoder.proofs.decode_page.Statement.{statement}
 use Rattle.decoder.proofs.decode_page.Tie as tie
+
+-- the places that later ones look back to: the start, the opening, the run
+abbrev start : tie.After-open-page → tie.Start
+start c = c .before .before .before .before .before .before .before .before .before .before
+
+abbrev opening : tie.Else1 → tie.After-open-page
+opening c = c .before .before .before .before .before .before .before
+
+abbrev ran : tie.After-state-weight-arg2 → tie.After-run
+ran c = c .before .before .before .before .before .before .before .before
 
 open-page-requires : tie.Need-open-page-requires
 open-page-requires c κs = search needs
@@ -29,34 +40,37 @@ same-length-3 c = search needs
 
 returns : tie.Need-returns
 returns c =
-    let b = c .before .before .before .before .before .before .before .before .before .before .before .before .before .before .before .before .before .before .before in
+    let clean = c .before .before in
+    let o = clean .before .before .before .before .before .before .before in
+    let b = start o in
     let a = b .args in
-    let o = c .before .before .before .before .before .before .before .before .before .open-page .ensures in
     rw (c .passed .ensures, c .before .opened .ensures)
-    (both (o .0) refl
-    ∙ clean-decoded (codeOf (a .q) (a .k) (a .positions .now)) (a .page .now) (b .pre .0 .limits) (b .pre .0 .orthogonal) (b .pre .0 .whole)
-    (sym (o .1) ∙ c .before .before .if1 .taken) (a .thresholds .now) (b .pre .1))
+    (both (o .open-page .ensures .0) refl
+    ∙ clean-decoded (codeBy (a .code) (a .positions .now)) (a .page .now) _ (b .pre .opens) (sym (o .open-page .ensures .1) ∙ clean .if1 .taken) (a .thresholds .now) (b .pre .some))
 
 opened-requires-2 : tie.Need-opened-requires-2
 opened-requires-2 c κs = search needs
 
 run-requires : tie.Need-run-requires
 run-requires c κs =
-    let b = c .before .before .before .before .before .before .before .before .before .before .before .before .before .before .before .before .before .before .before .before .before in
+    let o = opening (c .before .before .before .before) in
+    let b = start o in
     let a = b .args in
-    let o = c .before .before .before .before .before .before .before .before .before .before .before .open-page .ensures in
-    let code = codeOf (a .q) (a .k) (a .positions .now) in
-    let ready = subst (λ (st : State). Ready code st) (sym (o .0)) (opened-ready code (a .page .now) (b .pre .0 .limits) (b .pre .0 .orthogonal) (b .pre .0 .whole)) in
-    (ready, b .pre .2, ap (λ (t : Tally). t .changes) (c .opened2 .ensures))
+    let code = codeBy (a .code) (a .positions .now) in (
+      subst (λ (st : State). Ready code st) (sym (o .open-page .ensures .0)) (opened-ready code (a .page .now) _ (b .pre .opens)),
+      b .pre .few,
+      ap (λ (t : Tally). t .changes) (c .opened2 .ensures),
+    )
 
 state-weight-requires : tie.Need-state-weight-requires
 state-weight-requires c κs =
-    let b = c .before .before .before .before .before .before .before .before .before .before .before .before .before .before .before .before .before .before .before .before .before .before .before .before .before .before .before .before .before .before in
+    let r = ran c in
+    let o = opening (r .before .before .before .before .before) in
+    let b = start o in
     let a = b .args in
-    let o = c .before .before .before .before .before .before .before .before .before .before .before .before .before .before .before .before .before .before .before .before .open-page .ensures in
-    let code = codeOf (a .q) (a .k) (a .positions .now) in
-    let ready = subst (λ (st : State). Ready code st) (sym (o .0)) (opened-ready code (a .page .now) (b .pre .0 .limits) (b .pre .0 .orthogonal) (b .pre .0 .whole)) in
-    run-lengths code _ _ (a .thresholds .now) ready (c .before .before .before .before .before .before .before .before .run .ensures)
+    let code = codeBy (a .code) (a .positions .now) in
+    run-lengths code (a .page .now) _ (b .pre .opens) (a .thresholds .now) _ _
+    (r .run .ensures ∙ ap (runOf code (a .thresholds .now)) (both (o .open-page .ensures .0) (r .before .opened2 .ensures)))
 
 ended-requires : tie.Need-ended-requires
 ended-requires c κs = search needs
@@ -72,15 +86,16 @@ same-length-6 c = search needs
 
 returns-2 : tie.Need-returns-2
 returns-2 c =
-    let b = c .before .before .before .before .before .before .before .before .before .before .before .before .before .before .before .before .before .before .before .before .before .before .before .before .before .before .before .before .before .before .before .before in
+    let w = c .before in
+    let r = ran (w .before) in
+    let o = opening (r .before .before .before .before .before) in
+    let b = start o in
     let a = b .args in
-    let o = c .before .before .before .before .before .before .before .before .before .before .before .before .before .before .before .before .before .before .before .before .before .before .open-page .ensures in
-    let code = codeOf (a .q) (a .k) (a .positions .now) in
+    let code = codeBy (a .code) (a .positions .now) in
     rw (c .ended .ensures)
-    (run-decoded code (a .page .now) _ _ _ (b .pre .0) (a .thresholds .now) _ _ _
-    (c .before .before .before .before .before .before .before .before .before .before .run .ensures
-    ∙ ap (runOf code (a .thresholds .now)) (both (o .0) (c .before .before .before .before .before .before .before .before .before .before .before .opened2 .ensures)))
-    (o .1) (c .before .state-weight .ensures))
+    (run-decoded code (a .page .now) _ (b .pre .opens) (a .thresholds .now) _ _
+    (r .run .ensures ∙ ap (runOf code (a .thresholds .now)) (both (o .open-page .ensures .0) (r .before .opened2 .ensures)))
+    _ (o .open-page .ensures .1) (w .state-weight .ensures))
 
 pub decode-page-spec : {M : Type 1} → statement M
 decode-page-spec =

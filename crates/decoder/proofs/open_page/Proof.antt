@@ -1,36 +1,33 @@
--- `decoder::open_page` meets its contract.
+-- `open_page`: the three buffers are written one after the other, and the distance at the start is the weight of the syndrome.
 use borrow.Author.Needs.{needs}
-use mathlib.Core.Path.{sym, _∙_, ap, subst}
+use mathlib.Core.Path.{sym, _∙_, ap}
 use Prim.Native.Nat.{ℕ}
 use native.Mathlib.Omega.{arith}
-use lib.ListN.{length}
 use lib.Seq.{length-take-le}
 use Rattle.model.specs.Symbols.{weight, tabulate}
-use Rattle.model.specs.Code.{codeOf, syndrome}
-use Rattle.theory.specs.Answers.{Limits}
-use Rattle.decoder.specs.Decodes.{opened-by, opened-distance}
+use Rattle.params.specs.Codes.{codeBy}
+use Rattle.decoder.specs.Decodes.{opens-bytes, opened-by, opened-distance}
 use Rattle.decoder.proofs.open_page.Statement.{statement}
 use Rattle.decoder.proofs.open_page.Tie as tie
+
+-- the start, from where the data was copied
+abbrev start : tie.After-copy-into → tie.Start
+start c = c .before .before .before .before .before .before .before .before
 
 slice-aggregate-copy-into : tie.Need-slice-aggregate-copy-into
 slice-aggregate-copy-into c =
     let b = c .before .before .before .before .before .before .before in
-    sym (length-take-le (b .args .k) (b .args .page .now) (omega (arith, b .pre .whole .len)))
+    sym (length-take-le (b .args .code .k) (b .args .page .now) (omega (arith, b .pre .whole .len)))
 
 copy-into-requires : tie.Need-copy-into-requires
 copy-into-requires c κs =
     let b = c .before .before .before .before .before .before .before in
-    b .pre .len-result ∙ sym (length-take-le (b .args .k) (b .args .page .now) (omega (arith, b .pre .whole .len)))
+    b .pre .len-result ∙ sym (length-take-le (b .args .code .k) (b .args .page .now) (omega (arith, b .pre .whole .len)))
 
 write-syndrome-requires : tie.Need-write-syndrome-requires
 write-syndrome-requires c κs =
-    let b = c .before .before .before .before .before .before .before .before .before .before .before in
-    let a = b .args in (
-      subst (λ (k : ℕ). Limits (codeOf (a .q) k (a .positions .now))) (sym (b .pre .len-syndrome)) (b .pre .limits),
-      b .pre .whole .low,
-      omega
-          (arith, b .pre .whole .len, b .pre .len-syndrome),
-    )
+    let b = start (c .before .before .before) in
+    (opens-bytes _ _ _ (b .pre), b .pre .whole, b .pre .len-syndrome)
 
 clear-requires : tie.Need-clear-requires
 clear-requires c κs = search needs
@@ -49,14 +46,15 @@ same-length-3 c = search needs
 
 returns : tie.Need-returns
 returns c =
-    let b = c .before .before .before .before .before .before .before .before .before .before .before .before .before .before .before .before .before .before .before .before in
+    let cleared = c .before .before .before .before in
+    let written = cleared .before .before .before .before in
+    let copied = written .before .before .before .before in
+    let b = start copied in
     let a = b .args in
-    let code = codeOf (a .q) (a .k) (a .positions .now) in
-    let s = c .before .before .before .before .before .before .before .before .write-syndrome .ensures
-    ∙ ap (λ (k : ℕ). syndrome (codeOf (a .q) k (a .positions .now)) (a .page .now)) (b .pre .len-syndrome) in (
-      opened-by code (a .page .now) _ _ _ (c .before .before .before .before .before .before .before .before .before .before .before .before .copy-into .ensures) s
-          (c .before .before .before .before .clear .ensures ∙ ap (λ (n : ℕ). tabulate n (λ i. 0)) (b .pre .len-difference)),
-      c .weight-of .ensures ∙ ap weight s ∙ opened-distance code (a .page .now) (b .pre .limits) (b .pre .orthogonal) (b .pre .whole),
+    let code = codeBy (a .code) (a .positions .now) in
+    let s = written .write-syndrome .ensures in (
+      opened-by code (a .page .now) _ _ _ (copied .copy-into .ensures) s (cleared .clear .ensures ∙ ap (λ (n : ℕ). tabulate n (λ i. 0)) (b .pre .len-difference)),
+      c .weight-of .ensures ∙ ap weight s ∙ opened-distance code (a .page .now) _ (b .pre),
     )
 
 pub open-page-spec : {M : Type 1} → statement M

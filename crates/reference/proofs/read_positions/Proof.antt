@@ -1,0 +1,58 @@
+-- `reference::read_positions` is safe and ends. The array keeps its length; the measure is how many positions are left.
+-- Assumes nothing.
+use mathlib.Core.Path.{_≡_}
+use Prim.Native.Nat.{_-_}
+use native.Mathlib.Omega.{arith}
+use lib.ListN.{length, length-set}
+use borrow.Author.Needs.{needs}
+use Rattle.reference.proofs.read_positions.Statement.{statement}
+use Rattle.reference.proofs.read_positions.Tie as tie
+
+abbrev Inv-loop : tie.InvT-loop
+Inv-loop table positions₀ i₀ positions i = 40 ≡ length positions
+
+abbrev μ-loop : tie.MeasureT-loop
+μ-loop table positions₀ i₀ positions i = 40 - i
+
+loop-holds : tie.Need-loop-holds Inv-loop μ-loop
+loop-holds c = search needs
+
+mul-position-at : tie.Need-mul-position-at Inv-loop μ-loop
+mul-position-at c = search needs
+
+position-at-requires : tie.Need-position-at-requires Inv-loop μ-loop
+position-at-requires c κs = tt
+
+mul-positions : tie.Need-mul-positions Inv-loop μ-loop
+mul-positions c = search needs
+
+array-write-positions : tie.Need-array-write-positions Inv-loop μ-loop
+array-write-positions c = search needs
+
+add-i : tie.Need-add-i Inv-loop μ-loop
+add-i c = search needs
+
+loop-less : tie.Need-loop-less Inv-loop μ-loop
+loop-less c = search needs
+
+loop-again : tie.Need-loop-again Inv-loop μ-loop
+loop-again c = simp length-set (omega arith)
+
+returns : tie.Need-returns Inv-loop μ-loop
+returns c = search needs
+
+pub read-positions-spec : {M : Type 1} → statement M
+read-positions-spec =
+    tie.close
+    (tie.spec
+    Inv-loop
+    μ-loop
+    loop-holds
+    mul-position-at
+    position-at-requires
+    mul-positions
+    array-write-positions
+    add-i
+    loop-less
+    loop-again
+    returns)

@@ -1,0 +1,426 @@
+// Runs the reference pages in data/pages.bin through the Rattle calls, and prints for each group how many there are and how many came out wrong.
+// tests/reference/README.md has the format of the file.
+use decoder::Decoded;
+ghost use mathlib.Core.Path.{_≡_};
+ghost use Prim.Native.Nat.{_≤_};
+ghost use lib.ListN.{length};
+
+// What memory lent for an answer holds before a call.
+const FILL: u8 = 165;
+
+// The most memory that a call is lent for one answer.
+const MOST: usize = 8300;
+
+fn print(text: &[u8]) {
+    io::write_all(libc::STDOUT_FILENO, text);
+}
+
+fn print_number(n: u64) {
+    io::print_decimal(libc::STDOUT_FILENO, n);
+}
+
+fn number_of(a: u8, b: u8, c: u8, d: u8) -> u32 {
+    (a as u32) + 256 * (b as u32) + 65536 * (c as u32) + 16777216 * (d as u32)
+}
+
+// The 32-bit number that stands at a place, low byte first; 0 past the end.
+fn number_at(bytes: &[u8], at: usize) -> u32 {
+    if bytes.len() < 4 {
+        return 0;
+    }
+    if bytes.len() - 4 < at {
+        return 0;
+    }
+    number_of(bytes[at], bytes[at + 1], bytes[at + 2], bytes[at + 3])
+}
+
+// The place so many bytes on; no place of a record, usize::MAX, where that is past the end.
+fn skip(record: &[u8], at: usize, len: usize) -> usize {
+    if record.len() < at {
+        return usize::MAX;
+    }
+    if record.len() - at < len {
+        return usize::MAX;
+    }
+    at + len
+}
+
+// So many bytes from a place on; none where they are not all there.
+fn part(record: &[u8], at: usize, len: usize) -> &[u8] {
+    if record.len() < at {
+        return &record[..0];
+    }
+    if record.len() - at < len {
+        return &record[..0];
+    }
+    let end = at + len;
+    &record[at..end]
+}
+
+// One string of a record: its length, which of its contents the record gives, and where these start.
+struct Piece {
+    len: usize,
+    gives: u32,
+    at: usize,
+}
+
+impl Piece {
+    // The string whose length stands at a place.
+    fn read(record: &[u8], at: usize) -> Piece {
+        Piece {
+            len: number_at(record, at) as usize,
+            gives: number_at(record, skip(record, at, 4)),
+            at: skip(record, at, 8),
+        }
+    }
+
+    // The first string, behind the four numbers of every record and those of the call.
+    fn first(record: &[u8]) -> Piece {
+        Piece::read(record, 16 + 4 * (number_at(record, 8) as usize))
+    }
+
+    // Where the contents end.
+    fn end(self, record: &[u8]) -> usize {
+        if self.gives == 0 {
+            return self.at;
+        }
+        skip(record, self.at, self.len)
+    }
+
+    fn next(self, record: &[u8]) -> Piece {
+        Piece::read(record, self.end(record))
+    }
+
+    // What a call reads.
+    fn content(self, record: &[u8]) -> &[u8] {
+        part(record, self.at, self.len)
+    }
+
+    // How much memory is lent for an answer.
+    fn lent(self) -> usize
+        ensures { λ r. ⌜ r ≤ 8300 ⌝ }
+    {
+        if self.len < MOST { self.len } else { MOST }
+    }
+
+    // How many positions a table has.
+    fn positions(self) -> usize
+        ensures { λ r. ⌜ r ≤ 40 ⌝ }
+    {
+        if self.len < 80 { self.len / 2 } else { 40 }
+    }
+
+    // Where the record gives what the call must write; past its end where it gives nothing.
+    fn written_at(self) -> usize {
+        if self.gives == 2 { self.at } else { usize::MAX }
+    }
+
+    // Lent memory after the call: as the record gives it, or else as it was.
+    fn is_due(self, record: &[u8], lent: &[u8]) -> bool {
+        if lent.len() != self.len {
+            return false;
+        }
+        if self.gives == 2 {
+            return check::same(lent, self.content(record));
+        }
+        self.gives == 0 && is_filled(lent)
+    }
+}
+
+// Memory to lend for an answer.
+fn filled() -> [u8; MOST]
+    ensures { λ r. ⌜ 8300 ≡ length r ⌝ }
+{
+    [FILL; MOST]
+}
+
+// A buffer that no call has written.
+fn is_filled(lent: &[u8]) -> bool {
+    let n = lent.len();
+    if MOST < n {
+        return false;
+    }
+    let fill = filled();
+    check::same(lent, &fill[0..n])
+}
+
+fn position_of(low: u8, high: u8) -> u16 {
+    (low as u16) + 256 * (high as u16)
+}
+
+// The position that stands at a place; 0 past the end.
+fn position_at(table: &[u8], at: usize) -> u16 {
+    if table.len() < 2 {
+        return 0;
+    }
+    if table.len() - 2 < at {
+        return 0;
+    }
+    position_of(table[at], table[at + 1])
+}
+
+// The positions in a table's bytes, 0 past their end.
+fn read_positions(table: &[u8]) -> [u16; 40]
+    ensures { λ r. ⌜ 40 ≡ length r ⌝ }
+{
+    let mut positions = [0u16; 40];
+    let mut i = 0;
+    while i < 40 {
+        positions[i] = position_at(table, 2 * i);
+        i += 1;
+    }
+    positions
+}
+
+// The number that a record's call must return.
+fn returned(record: &[u8]) -> u32 {
+    number_at(record, 4)
+}
+
+fn q_of(record: &[u8]) -> u32 {
+    number_at(record, 16)
+}
+
+fn k_of(record: &[u8]) -> u32 {
+    number_at(record, 20)
+}
+
+// Has the record q, k and so many strings, and nothing behind the last?
+fn is_whole(record: &[u8], strings: u32, last: Piece) -> bool {
+    number_at(record, 8) == 2
+        && number_at(record, 12) == strings
+        && last.end(record) == record.len()
+}
+
+// Is what the call returns and writes what its record gives? A function for each call, and one below it where memory is lent.
+fn check_table_is_right(record: &[u8]) -> bool {
+    let table = Piece::first(record);
+    let positions = read_positions(table.content(record));
+    let j = table.positions();
+    let number = table::check_table(q_of(record), k_of(record), &positions[0..j]);
+    number == returned(record) && is_whole(record, 1, table)
+}
+
+// Encode or syndrome, which take one input and one lent buffer.
+fn code(record: &[u8], positions: &[u16], input: &[u8], lent: &mut [u8]) -> u32 {
+    if number_at(record, 0) == 2 {
+        return page::encode(q_of(record), k_of(record), positions, input, lent);
+    }
+    page::syndrome(q_of(record), k_of(record), positions, input, lent)
+}
+
+fn code_with(record: &[u8], lent: &mut [u8]) -> bool {
+    let table = Piece::first(record);
+    let input = table.next(record);
+    let output = input.next(record);
+    let positions = read_positions(table.content(record));
+    let j = table.positions();
+    let number = code(record, &positions[0..j], input.content(record), lent);
+    number == returned(record) && output.is_due(record, lent) && is_whole(record, 3, output)
+}
+
+fn code_is_right(record: &[u8]) -> bool {
+    let output = Piece::first(record).next(record).next(record);
+    let mut lent = filled();
+    let n = output.lent();
+    code_with(record, &mut lent[0..n])
+}
+
+// The counts that a decode handed back: as the record gives them, or else all 0.
+fn counts_are_due(got: Decoded, record: &[u8], counts: Piece) -> bool {
+    let at = counts.written_at();
+    counts.len == 16
+        && got.tally.passes == number_at(record, at)
+        && got.tally.changes == number_at(record, skip(record, at, 4))
+        && got.tally.start == number_at(record, skip(record, at, 8))
+        && got.tally.end == number_at(record, skip(record, at, 12))
+}
+
+fn decode_with(
+    record: &[u8],
+    thresholds: Piece,
+    first: &mut [u8],
+    second: &mut [u8],
+    third: &mut [u8],
+) -> bool {
+    let table = Piece::first(record);
+    let page = table.next(record);
+    let result = thresholds.next(record);
+    let syndrome = result.next(record);
+    let difference = syndrome.next(record);
+    let counts = difference.next(record);
+    let positions = read_positions(table.content(record));
+    let j = table.positions();
+    let got = decoder::decode(
+        q_of(record),
+        k_of(record),
+        &positions[0..j],
+        page.content(record),
+        thresholds.content(record),
+        first,
+        second,
+        third,
+    );
+    got.number == returned(record)
+        && result.is_due(record, first)
+        && syndrome.is_due(record, second)
+        && difference.is_due(record, third)
+        && counts_are_due(got, record, counts)
+        && is_whole(record, 7, counts)
+}
+
+fn decode_is_right(record: &[u8]) -> bool {
+    let thresholds = Piece::first(record).next(record).next(record);
+    let result = thresholds.next(record);
+    let syndrome = result.next(record);
+    let difference = syndrome.next(record);
+    let mut first = filled();
+    let mut second = filled();
+    let mut third = filled();
+    let a = result.lent();
+    let b = syndrome.lent();
+    let c = difference.lent();
+    decode_with(
+        record,
+        thresholds,
+        &mut first[0..a],
+        &mut second[0..b],
+        &mut third[0..c],
+    )
+}
+
+// A record that no function here can run came out wrong.
+fn is_unknown(call: u32) -> bool {
+    print(b"\nno call has the number ");
+    print_number(call as u64);
+    print(b"\n");
+    false
+}
+
+fn is_right(record: &[u8]) -> bool {
+    let call = number_at(record, 0);
+    match call {
+        1 => check_table_is_right(record),
+        2 | 3 => code_is_right(record),
+        4 => decode_is_right(record),
+        _ => is_unknown(call),
+    }
+}
+
+// A group of pages: how many there were, how many came out wrong, whether its calls can be made in C alone, and whether the file ended in it.
+struct Group {
+    pages: u64,
+    wrong: u64,
+    c_only: bool,
+    ended: bool,
+}
+
+// One more, as long as that fits.
+fn one_more(n: u64) -> u64 {
+    if n < u64::MAX { n + 1 } else { n }
+}
+
+impl Group {
+    fn new(c_only: bool) -> Group {
+        Group {
+            pages: 0,
+            wrong: 0,
+            c_only,
+            ended: false,
+        }
+    }
+
+    fn with_page(mut self, right: bool) -> Group {
+        self.pages = one_more(self.pages);
+        if !right {
+            self.wrong = one_more(self.wrong);
+        }
+        self
+    }
+
+    fn end(mut self) -> Group {
+        self.ended = true;
+        self
+    }
+
+    // The rest of the line that its name began.
+    fn print(self) {
+        if self.pages == 0 {
+            return;
+        }
+        print(b": ");
+        print_number(self.pages);
+        print(b" pages, ");
+        if self.c_only {
+            print(b"for the C form only\n");
+        } else {
+            print_number(self.wrong);
+            print(b" wrong\n");
+        }
+    }
+}
+
+// A record that opens a group has a number, 1 where its calls can be made in C alone, and the group's name.
+fn open_group(record: &[u8]) -> Group {
+    print(Piece::first(record).content(record));
+    Group::new(number_at(record, 16) == 1)
+}
+
+fn run(group: Group, record: &[u8]) -> Group {
+    if number_at(record, 0) == 0 {
+        group.print();
+        return open_group(record);
+    }
+    group.with_page(group.c_only || is_right(record))
+}
+
+fn cut_off(group: Group) -> Group {
+    print(b"\nthe file ends within a record\n");
+    group.end()
+}
+
+fn read_and_run(fd: i32, group: Group, record: &mut [u8]) -> Group {
+    if io::read_full(fd, record) != record.len() {
+        return cut_off(group);
+    }
+    run(group, record)
+}
+
+// Reads the next record and runs it.
+fn run_next(fd: i32, group: Group) -> Group {
+    let mut length = [0u8; 4];
+    let got = io::read_full(fd, &mut length);
+    if got == 0 {
+        return group.end();
+    }
+    if got != 4 {
+        return cut_off(group);
+    }
+    let mut record = [0u8; 32768];
+    let n = number_at(&length, 0) as usize;
+    if 32768 < n {
+        return cut_off(group);
+    }
+    read_and_run(fd, group, &mut record[0..n])
+}
+
+// The loop counts its turns down from a number that no file uses up, since nothing says that a file ends.
+fn run_all(fd: i32) {
+    let mut group = Group::new(false);
+    let mut turns = u64::MAX;
+    while turns > 0 && !group.ended {
+        group = run_next(fd, group);
+        turns -= 1;
+    }
+    group.print();
+}
+
+fn main() {
+    let fd = os::open_read(b"pages.bin");
+    if fd < 0 {
+        os::fail(b"pages.bin");
+        return;
+    }
+    run_all(fd);
+    libc::close(fd);
+}

@@ -1,0 +1,101 @@
+"""The file of reference pages: a record for each call, with all that it takes, returns and writes. README.md beside this
+file has the format."""
+
+import struct
+
+import reference as ref
+
+# The number of a call in the file; 0 opens a group.
+OPEN_GROUP, CHECK_TABLE, ENCODE, SYNDROME, DECODE = range(5)
+
+# What a record gives of a string's content.
+BEFORE, AFTER = 1, 2
+
+# What readers may rely on for the size of their buffers.
+MOST_STRING, MOST_RECORD = 8300, 32768
+
+
+def read(content):
+    """A string that the call only reads."""
+    content = bytes(content)
+    return struct.pack("<2I", len(content), BEFORE) + content
+
+
+def lent(length, number, written):
+    """Memory lent for an answer, whatever it holds: written whole where the call returns 0, else left."""
+    if number:
+        return struct.pack("<2I", length, 0)
+    written = bytes(written)
+    assert len(written) == length
+    return struct.pack("<2I", length, AFTER) + written
+
+
+class Pages:
+    """Records, each with the expected outcome of one call."""
+
+    def __init__(self):
+        self.records = []
+        self.groups = []
+
+    def open_group(self, name, c_only):
+        """The records that follow are of this group."""
+        self.groups.append([name, c_only, 0])
+        self._record(OPEN_GROUP, 0, [int(c_only)], [read(name.encode())])
+
+    def count(self):
+        return sum(count for _, _, count in self.groups)
+
+    def content(self):
+        """The file."""
+        return b"".join(self.records)
+
+    def report(self):
+        """What the program `reference` prints of the file."""
+        return "".join(f"{name}: {count} pages, {'for the C form only' if c_only else '0 wrong'}\n"
+                       for name, c_only, count in self.groups).encode()
+
+    def _record(self, call, number, numbers, strings):
+        record = struct.pack(f"<{4 + len(numbers)}I", call, number, len(numbers), len(strings), *numbers)
+        record += b"".join(strings)
+        assert len(record) <= MOST_RECORD
+        assert all(struct.unpack_from("<I", string)[0] <= MOST_STRING for string in strings)
+        self.records.append(struct.pack("<I", len(record)) + record)
+
+    def _call(self, call, number, expect, numbers, strings):
+        assert expect in (None, number)
+        self._record(call, number, numbers, strings)
+        self.groups[-1][2] += 1
+
+    # A function for each call. `expect` is the number that it is known to return.
+
+    def check_table(self, q, k, table, expect=None):
+        number = ref.check_table(q, k, table)
+        self._call(CHECK_TABLE, number, expect, [q, k], [read(table)])
+
+    def encode(self, q, k, table, data, page_len=None, expect=None):
+        page_len = 2 * k if page_len is None else page_len
+        number, page = ref.encode(q, k, table, data, page_len)
+        self._call(ENCODE, number, expect, [q, k], [read(table), read(data), lent(page_len, number, page)])
+
+    def syndrome(self, q, k, table, page, syndrome_len=None, expect=None):
+        syndrome_len = k if syndrome_len is None else syndrome_len
+        number, s = ref.syndrome(q, k, table, page, syndrome_len)
+        self._call(SYNDROME, number, expect, [q, k], [read(table), read(page), lent(syndrome_len, number, s)])
+
+    def decode(self, q, k, table, page, thresholds, lengths=None, expect=None):
+        """`lengths` are those of result, syndrome and difference. Returns what the decode gave."""
+        lengths = (k, k, k) if lengths is None else lengths
+        number, got = ref.decode(q, k, table, page, thresholds, *lengths)
+        counts = None if number else struct.pack("<4I", *got.counts)
+        written = (None,) * 3 if number else got[:3]
+        answers = [lent(length, number, content) for length, content in zip(lengths, written)]
+        self._call(DECODE, number, expect, [q, k],
+                   [read(table), read(page), read(thresholds), *answers, lent(16, number, counts)])
+        return got
+
+    def every_call(self, q, k, table, expect=None):
+        """All four calls, on symbols that are all 0."""
+        self.check_table(q, k, table, expect)
+        self.encode(q, k, table, [0] * k, expect=expect)
+        self.syndrome(q, k, table, [0] * (2 * k), expect=expect)
+        self.decode(q, k, table, [0] * (2 * k), [0], expect=expect)
