@@ -55,12 +55,12 @@ pub visits-suc : (c : Code) (t n : ℕ) (p : Progress) → visits c t (n + 1) p 
 unfolding visits
 visits-suc c t n p = ap (λ (i : ℕ). visits c t i p) (add-one n)
 
-pub passes-stop : (c : Code) (n t : ℕ) (ths : List ℕ) (p : Progress) → visits c t (dataCount c) p .tally .changes ≡ p .tally .changes
+passes-stop : (c : Code) (n t : ℕ) (ths : List ℕ) (p : Progress) → visits c t (dataCount c) p .tally .changes ≡ p .tally .changes
     → passesFrom c n (t ∷ ths) p ≡ passesFrom c (suc n) [] (visits c t (dataCount c) p)
 unfolding passesFrom
 passes-stop c n t ths p e = simp (eq-eqb _ _ e)
 
-pub passes-go : (c : Code) (n t : ℕ) (ths : List ℕ) (p : Progress) → (visits c t (dataCount c) p .tally .changes ≡ p .tally .changes → ⊥)
+passes-go : (c : Code) (n t : ℕ) (ths : List ℕ) (p : Progress) → (visits c t (dataCount c) p .tally .changes ≡ p .tally .changes → ⊥)
     → passesFrom c n (t ∷ ths) p ≡ passesFrom c (suc n) ths (visits c t (dataCount c) p)
 unfolding passesFrom
 passes-go c n t ths p e = simp (ne-eqb _ _ e)

@@ -14,11 +14,11 @@ pub add-lt : (q a b : ℕ) → 0 < q → add q a b < q
 unfolding add
 add-lt q a b pos = mod-lt (a + b) pos
 
-pub add-below : (q a b : ℕ) → a + b < q → add q a b ≡ a + b
+add-below : (q a b : ℕ) → a + b < q → add q a b ≡ a + b
 unfolding add
 add-below q a b h = mod-eq-of-lt h
 
-pub add-above : (q a b : ℕ) → a < q → b < q → q ≤ a + b → add q a b ≡ a + b - q
+add-above : (q a b : ℕ) → a < q → b < q → q ≤ a + b → add q a b ≡ a + b - q
 unfolding add
 add-above q a b ha hb h = by-eq q {x = a + b} {y = a + b - q + q} (omega arith) ∙ add-mod-right (a + b - q) q ∙ mod-eq-of-lt (omega arith)
 

@@ -18,6 +18,10 @@ Inv-loop code positions j v s n₀ i₀ n i = (i ≤ length positions) × (n ≤
 abbrev μ-loop : tie.MeasureT-loop
 μ-loop code positions j v s n₀ i₀ n i = length positions - i
 
+-- the start, seen from the loop
+abbrev start : tie.At-loop Inv-loop μ-loop → tie.Start Inv-loop μ-loop
+start c = c .before .before .before
+
 loop-holds : tie.Need-loop-holds Inv-loop μ-loop
 loop-holds c =
     let a = c .before .before .args in
@@ -32,19 +36,17 @@ shared-slice-read-check-of c = omega arith
 check-of-requires : tie.Need-check-of-requires Inv-loop μ-loop
 check-of-requires c κs =
     let l = c .before .before in
-    let p = l .before .before .before .pre in
+    let p = start l .pre in
     by-position (p .0) _ _ (p .1) (omega arith)
 
 shared-slice-read-equal : tie.Need-shared-slice-read-equal Inv-loop μ-loop
-shared-slice-read-equal c =
-    let p = c .before .before .before .before .before .before .before .pre in
-    check-inside (p .0) _ _ (c .before .check-of .ensures)
+shared-slice-read-equal c = check-inside (start (c .before .before .before .before) .pre .0) _ _ (c .before .check-of .ensures)
 
 equal-requires : tie.Need-equal-requires Inv-loop μ-loop
 equal-requires c κs = search needs
 
 add-n : tie.Need-add-n Inv-loop μ-loop
-add-n c = let p = c .before .before .before .before .before .before .before .before .pre in omega (arith, p .0 .table .J-high)
+add-n c = omega (arith, start (c .before .before .before .before .before) .pre .0 .table .J-high)
 
 add-i : tie.Need-add-i Inv-loop μ-loop
 add-i c = omega arith
@@ -55,7 +57,7 @@ loop-less c = omega arith
 loop-again : tie.Need-loop-again Inv-loop μ-loop
 loop-again c =
     let b = c .before .before .before .before .before in
-    let a = b .before .before .before .args in
+    let a = start b .args in
     let at = c .before .before .check-of in
     let e : same (a .v) (getD (a .s .now) (at .result) 0) ≡ same (a .v) (getD (a .s .now) ((a .j + getD (a .positions .now) (b .loop .i) 0) % a .code .k) 0) =
     ap (λ (i : ℕ). same (a .v) (getD (a .s .now) i 0)) (at .ensures) in
@@ -64,7 +66,7 @@ loop-again c =
 returns : tie.Need-returns Inv-loop μ-loop
 returns c =
     let b = c .before in
-    let a = b .before .before .before .args in
+    let a = start b .args in
     b .loop .inv .2 ∙ ap (λ (l : List ℕ). count (a .v) (symbolsAt (a .s .now) (checksBy (a .code .k) l (a .j)))) (take-all (b .loop .i) (a .positions .now) (omega arith))
 
 pub count-at-spec : {M : Type 1} → statement M

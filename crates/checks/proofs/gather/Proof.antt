@@ -18,6 +18,10 @@ Inv-loop code positions j own s es₀ i₀ es i = (i ≤ length positions) × (l
 abbrev μ-loop : tie.MeasureT-loop
 μ-loop code positions j own s es₀ i₀ es i = length positions - i
 
+-- the start, seen from the loop
+abbrev start : tie.At-loop Inv-loop μ-loop → tie.Start Inv-loop μ-loop
+start c = c .before .before .before .before
+
 slice-write-es : tie.Need-slice-write-es Inv-loop μ-loop
 slice-write-es c = omega arith
 
@@ -36,16 +40,14 @@ shared-slice-read-check-of c = omega arith
 check-of-requires : tie.Need-check-of-requires Inv-loop μ-loop
 check-of-requires c κs =
     let l = c .before .before in
-    let p = l .before .before .before .before .pre in
+    let p = start l .pre in
     by-position (p .0) _ _ (p .1) (omega arith)
 
 add-i : tie.Need-add-i Inv-loop μ-loop
 add-i c = omega arith
 
 shared-slice-read-es : tie.Need-shared-slice-read-es Inv-loop μ-loop
-shared-slice-read-es c =
-    let p = c .before .before .before .before .before .before .before .before .pre in
-    check-inside (p .0) _ _ (c .before .check-of .ensures)
+shared-slice-read-es c = check-inside (start (c .before .before .before .before) .pre .0) _ _ (c .before .check-of .ensures)
 
 slice-write-es-2 : tie.Need-slice-write-es-2 Inv-loop μ-loop
 slice-write-es-2 c = omega arith
@@ -56,7 +58,7 @@ loop-less c = omega arith
 loop-again : tie.Need-loop-again Inv-loop μ-loop
 loop-again c =
     let b = c .before .before .before .before in
-    let a = b .before .before .before .before .args in
+    let a = start b .args in
     let es : List ℕ = b .loop .es in (
       omega arith,
       length-set es (b .loop .i + 1) _ ∙ b .loop .inv .1,
@@ -70,7 +72,7 @@ same-length c = omega arith
 returns : tie.Need-returns Inv-loop μ-loop
 returns c =
     let b = c .before in
-    let a = b .before .before .before .before .args in
+    let a = start b .args in
     sym (take-all (b .loop .i + 1) (b .loop .es) (omega arith)) ∙ b .loop .inv .2
     ∙ ap (λ (l : List ℕ). a .own ∷ symbolsAt (a .s .now) (checksBy (a .code .k) l (a .j))) (take-all (b .loop .i) (a .positions .now) (omega arith))
 

@@ -15,6 +15,10 @@ Inv-loop code positions j h s₀ top i₀ s i = Subtracted (code .q) h (code .k)
 abbrev μ-loop : tie.MeasureT-loop
 μ-loop code positions j h s₀ top i₀ s i = length positions - i
 
+-- the start, seen from the loop
+abbrev start : tie.At-loop Inv-loop μ-loop → tie.Start Inv-loop μ-loop
+start c = c .before .before .before .before
+
 highest-requires : tie.Need-highest-requires Inv-loop μ-loop
 highest-requires c κs = omega arith
 
@@ -30,20 +34,18 @@ shared-slice-read-check-of c = omega arith
 check-of-requires : tie.Need-check-of-requires Inv-loop μ-loop
 check-of-requires c κs =
     let l = c .before .before in
-    let p = l .before .before .before .before .pre in
+    let p = start l .pre in
     by-position (p .0) _ _ (p .1) (omega arith)
 
 slice-read-sub-mod : tie.Need-slice-read-sub-mod Inv-loop μ-loop
 slice-read-sub-mod c =
     let l = c .before .before .before .before in
-    let p = l .before .before .before .before .pre in
-    check-inside (at-checks-of (p .0) (l .loop .s) (l .loop .inv .sized)) _ _ (c .before .check-of .ensures)
+    check-inside (at-checks-of (start l .pre .0) (l .loop .s) (l .loop .inv .sized)) _ _ (c .before .check-of .ensures)
 
 sub-mod-requires : tie.Need-sub-mod-requires Inv-loop μ-loop
 sub-mod-requires c κs =
     let l = c .before .before .before .before in
-    let p = l .before .before .before .before .pre in
-    let low = subtract-below (l .loop .inv) (omega arith) (p .4) in
+    let low = subtract-below (l .loop .inv) (omega arith) (start l .pre .4) in
     omega (arith, low (c .before .check-of .result), l .before .highest .ensures)
 
 slice-write-s : tie.Need-slice-write-s Inv-loop μ-loop
@@ -60,7 +62,7 @@ loop-again c =
     let l = c .before .before .before .before .before in
     let at = c .before .before .check-of in
     subtract-turn (l .loop .inv) _ _ _ (omega arith) (at .ensures)
-    (c .sub-mod .ensures ∙ ap (λ (q : ℕ). sub q (getD (l .loop .s) (at .result) 0) (l .before .before .before .before .args .h)) (l .before .highest .ensures)) refl
+    (c .sub-mod .ensures ∙ ap (λ (q : ℕ). sub q (getD (l .loop .s) (at .result) 0) (start l .args .h)) (l .before .highest .ensures)) refl
 
 same-length : tie.Need-same-length Inv-loop μ-loop
 same-length c = omega arith

@@ -1,9 +1,10 @@
--- `rows::add_row` meets its contract.
+-- `rows::add_row` meets its contract: each of its two runs adds a straight part of the row.
 use mathlib.Core.Path.{sym, _∙_}
 use Prim.Native.Nat.{ℕ, _-_}
 use native.Mathlib.Omega.{arith}
 use lib.ListN.{length, length-take, length-drop}
-use Rattle.theory.specs.Parts.{below-part, lead-length, lead-below}
+use lib.Seq.{length-take-le}
+use Rattle.theory.specs.Parts.{below-part, lead-below}
 use Rattle.rows.specs.Rows.{added-row}
 use borrow.Author.Needs.{needs}
 use Rattle.rows.proofs.add_row.Statement.{statement}
@@ -31,17 +32,15 @@ add-into-requires c κs =
       omega arith,
       omega arith,
       simp (length-take, length-drop) (omega arith),
-      below-part (a .q) (omega arith) (a .p) (length (a .acc .now) - a .p) (a .acc .now) (b .pre .4),
-      below-part (a .q) (omega arith) 0 (length (a .src .now) - a .p) (a .src .now) (b .pre .5),
+      λ i. omega (arith, below-part (a .q) (omega arith) (a .p) (length (a .acc .now) - a .p) (a .acc .now) (b .pre .4) i),
+      λ i. omega (arith, below-part (a .q) (omega arith) 0 (length (a .src .now) - a .p) (a .src .now) (b .pre .5) i),
     )
 
 slice-relend-prefix-add-into : tie.Need-slice-relend-prefix-add-into
 slice-relend-prefix-add-into c = search needs
 
 slice-aggregate-add-into-2 : tie.Need-slice-aggregate-add-into-2
-slice-aggregate-add-into-2 c =
-    let a = c .before .before .before .before .before .before .before .before .args in
-    sym (lead-length (a .p) (a .acc .now) (omega arith) (c .before .before .before .add-into .last .1 .0))
+slice-aggregate-add-into-2 c = sym (length-take-le _ _ (slice-relend-prefix-add-into (c .before)))
 
 sub-add-into-2 : tie.Need-sub-add-into-2
 sub-add-into-2 c = search needs
@@ -60,9 +59,9 @@ add-into-requires-2 c κs =
     let r = c .before .before .before .before .add-into .last .1 .0 in (
       omega arith,
       omega arith,
-      lead-length (a .p) (a .acc .now) (omega arith) r ∙ simp (length-take, length-drop) (omega arith),
-      lead-below (a .p) (a .acc .now) (omega arith) (a .q) (omega arith) (b .pre .4) r,
-      below-part (a .q) (omega arith) rest (length (a .src .now) - rest) (a .src .now) (b .pre .5),
+      sym (slice-aggregate-add-into-2 (c .before)) ∙ simp (length-take, length-drop) (omega arith),
+      λ i. omega (arith, lead-below (a .p) (a .acc .now) (omega arith) (a .q) (omega arith) (b .pre .4) r i),
+      λ i. omega (arith, below-part (a .q) (omega arith) rest (length (a .src .now) - rest) (a .src .now) (b .pre .5) i),
     )
 
 same-length : tie.Need-same-length

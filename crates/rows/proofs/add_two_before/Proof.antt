@@ -1,9 +1,10 @@
--- `rows::add_two_before` meets its contract.
+-- `rows::add_two_before` meets its contract: in each of its two runs both rows are straight.
 use mathlib.Core.Path.{sym}
 use Prim.Native.Nat.{_-_}
 use native.Mathlib.Omega.{arith}
 use lib.ListN.{length, length-take, length-drop}
-use Rattle.theory.specs.Parts.{below-part, lead-length, lead-below}
+use lib.Seq.{length-take-le}
+use Rattle.theory.specs.Parts.{below-part, lead-below}
 use Rattle.rows.specs.Rows.{added-before}
 use borrow.Author.Needs.{needs}
 use Rattle.rows.proofs.add_two_before.Statement.{statement}
@@ -40,9 +41,7 @@ slice-relend-prefix-add-two-parts : tie.Need-slice-relend-prefix-add-two-parts
 slice-relend-prefix-add-two-parts c = search needs
 
 slice-aggregate-add-two-parts : tie.Need-slice-aggregate-add-two-parts
-slice-aggregate-add-two-parts c =
-    let a = c .before .before .before .before .before .before .before .args in
-    sym (lead-length (a .p) (a .acc .now) (omega arith) (c .before .before .before .add-two-parts .last .1 .0))
+slice-aggregate-add-two-parts c = sym (length-take-le _ _ (slice-relend-prefix-add-two-parts (c .before)))
 
 sub-add-two-parts-2 : tie.Need-sub-add-two-parts-2
 sub-add-two-parts-2 c = omega arith
@@ -52,7 +51,7 @@ add-two-parts-requires-2 c κs =
     let b = c .before .before .before .before .before .before .before in
     let a = b .args in
     let x = c .before .before .before .add-two-parts .last .1 .0 in
-    let len = lead-length (a .p) (a .acc .now) (omega arith) x in
+    let len = sym (slice-aggregate-add-two-parts c) in
     (omega arith, omega arith, omega (arith, len), omega (arith, len), lead-below (a .p) (a .acc .now) (omega arith) (a .q) (omega arith) (b .pre .5) x, b .pre .6)
 
 same-length : tie.Need-same-length

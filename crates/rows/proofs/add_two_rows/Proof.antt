@@ -1,9 +1,10 @@
--- `rows::add_two_rows` meets its contract.
+-- `rows::add_two_rows` meets its contract: from r on both rows are straight, and before r `add_two_before` adds them.
 use mathlib.Core.Path.{sym}
 use Prim.Native.Nat.{_-_}
 use native.Mathlib.Omega.{arith}
 use lib.ListN.{length, length-take, length-drop}
-use Rattle.theory.specs.Parts.{below-part, lead-length, lead-below}
+use lib.Seq.{length-take-le}
+use Rattle.theory.specs.Parts.{below-part, lead-below}
 use Rattle.rows.specs.Rows.{added-two}
 use borrow.Author.Needs.{needs}
 use Rattle.rows.proofs.add_two_rows.Statement.{statement}
@@ -37,9 +38,7 @@ slice-relend-prefix-add-two-before : tie.Need-slice-relend-prefix-add-two-before
 slice-relend-prefix-add-two-before c = search needs
 
 slice-aggregate-add-two-before : tie.Need-slice-aggregate-add-two-before
-slice-aggregate-add-two-before c =
-    let a = c .before .before .before .before .before .before .before .args in
-    sym (lead-length (a .r) (a .acc .now) (omega arith) (c .before .before .before .add-two-parts .last .1 .0))
+slice-aggregate-add-two-before c = sym (length-take-le _ _ (slice-relend-prefix-add-two-before (c .before)))
 
 add-two-before-requires : tie.Need-add-two-before-requires
 add-two-before-requires c κs =
@@ -48,7 +47,7 @@ add-two-before-requires c κs =
     let x = c .before .before .before .add-two-parts .last .1 .0 in (
       omega arith,
       omega arith,
-      lead-length (a .r) (a .acc .now) (omega arith) x,
+      sym (slice-aggregate-add-two-before c),
       omega arith,
       omega arith,
       lead-below (a .r) (a .acc .now) (omega arith) (a .q) (omega arith) (b .pre .5) x,

@@ -1,9 +1,8 @@
--- `rows::copy_row` meets its contract.
+-- `rows::copy_row` meets its contract: each of its two runs copies a straight part of the row.
 use mathlib.Core.Path.{sym, _∙_}
-use Prim.Native.Nat.{_-_}
 use native.Mathlib.Omega.{arith}
 use lib.ListN.{length-take, length-drop}
-use Rattle.theory.specs.Parts.{lead-length}
+use lib.Seq.{length-take-le}
 use Rattle.rows.specs.Rows.{copied-row}
 use borrow.Author.Needs.{needs}
 use Rattle.rows.proofs.copy_row.Statement.{statement}
@@ -31,9 +30,7 @@ slice-relend-prefix-copy-into : tie.Need-slice-relend-prefix-copy-into
 slice-relend-prefix-copy-into c = search needs
 
 slice-aggregate-copy-into-2 : tie.Need-slice-aggregate-copy-into-2
-slice-aggregate-copy-into-2 c =
-    let a = c .before .before .before .before .before .before .before .before .args in
-    sym (lead-length (a .p) (a .dst .now) (omega arith) (c .before .before .before .copy-into .last .0))
+slice-aggregate-copy-into-2 c = sym (length-take-le _ _ (slice-relend-prefix-copy-into (c .before)))
 
 sub-copy-into-2 : tie.Need-sub-copy-into-2
 sub-copy-into-2 c = search needs
@@ -45,9 +42,7 @@ part-copy-into-end-2 : tie.Need-part-copy-into-end-2
 part-copy-into-end-2 c = search needs
 
 copy-into-requires-2 : tie.Need-copy-into-requires-2
-copy-into-requires-2 c κs =
-    let a = c .before .before .before .before .before .before .before .before .before .args in
-    lead-length (a .p) (a .dst .now) (omega arith) (c .before .before .before .before .copy-into .last .0) ∙ simp (length-take, length-drop) (omega arith)
+copy-into-requires-2 c κs = sym (slice-aggregate-copy-into-2 (c .before)) ∙ simp (length-take, length-drop) (omega arith)
 
 same-length : tie.Need-same-length
 same-length c = search needs

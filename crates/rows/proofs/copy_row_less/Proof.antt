@@ -1,9 +1,10 @@
--- `rows::copy_row_less` meets its contract.
+-- `rows::copy_row_less` meets its contract: each of its two runs writes a straight part of the row, less the list there.
 use mathlib.Core.Path.{sym, _∙_}
 use Prim.Native.Nat.{ℕ, _-_}
 use native.Mathlib.Omega.{arith}
 use lib.ListN.{length, length-take, length-drop}
-use Rattle.theory.specs.Parts.{below-part, lead-length}
+use lib.Seq.{length-take-le}
+use Rattle.theory.specs.Parts.{below-part}
 use Rattle.rows.specs.Rows.{copied-less}
 use borrow.Author.Needs.{needs}
 use Rattle.rows.proofs.copy_row_less.Statement.{statement}
@@ -41,17 +42,15 @@ sub-into-requires c κs =
       omega arith,
       simp (length-take, length-drop) (omega arith),
       simp (length-take, length-drop) (omega arith),
-      below-part (a .q) (omega arith) 0 (length (a .src .now) - a .p) (a .src .now) (b .pre .5),
-      below-part (a .q) (omega arith) (a .p) (length (a .less .now) - a .p) (a .less .now) (b .pre .6),
+      λ i. omega (arith, below-part (a .q) (omega arith) 0 (length (a .src .now) - a .p) (a .src .now) (b .pre .5) i),
+      λ i. omega (arith, below-part (a .q) (omega arith) (a .p) (length (a .less .now) - a .p) (a .less .now) (b .pre .6) i),
     )
 
 slice-relend-prefix-sub-into : tie.Need-slice-relend-prefix-sub-into
 slice-relend-prefix-sub-into c = search needs
 
 slice-aggregate-sub-into-2 : tie.Need-slice-aggregate-sub-into-2
-slice-aggregate-sub-into-2 c =
-    let a = c .before .before .before .before .before .before .before .before .before .before .args in
-    sym (lead-length (a .p) (a .dst .now) (omega arith) (c .before .before .before .sub-into .last .1 .0))
+slice-aggregate-sub-into-2 c = sym (length-take-le _ _ (slice-relend-prefix-sub-into (c .before)))
 
 sub-sub-into-3 : tie.Need-sub-sub-into-3
 sub-sub-into-3 c = omega arith
@@ -70,13 +69,13 @@ sub-into-requires-2 c κs =
     let b = c .before .before .before .before .before .before .before .before .before .before .before .before in
     let a = b .args in
     let rest : ℕ = length (a .src .now) - a .p in
-    let len = lead-length (a .p) (a .dst .now) (omega arith) (c .before .before .before .before .before .sub-into .last .1 .0) in (
+    let len = sym (slice-aggregate-sub-into-2 (c .before .before)) in (
       omega arith,
       omega arith,
       len ∙ simp (length-take, length-drop) (omega arith),
       len ∙ simp length-take (omega arith),
-      below-part (a .q) (omega arith) rest (length (a .src .now) - rest) (a .src .now) (b .pre .5),
-      below-part (a .q) (omega arith) 0 (a .p) (a .less .now) (b .pre .6),
+      λ i. omega (arith, below-part (a .q) (omega arith) rest (length (a .src .now) - rest) (a .src .now) (b .pre .5) i),
+      λ i. omega (arith, below-part (a .q) (omega arith) 0 (a .p) (a .less .now) (b .pre .6) i),
     )
 
 same-length : tie.Need-same-length

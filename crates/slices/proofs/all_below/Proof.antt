@@ -1,4 +1,4 @@
--- `slices::all_below` meets its contract. Assumes nothing.
+-- `slices::all_below` meets its contract: the highest symbol tells, and from 256 on every byte is below.
 use mathlib.Core.Path.{sym, ap, _∙_}
 use Prim.Native.Nat.{ℕ}
 use native.Mathlib.Omega.{arith}

@@ -1,4 +1,4 @@
--- `slices::clear` meets its contract. Assumes nothing.
+-- `slices::clear` meets its contract. The invariant: the symbols passed are written, the rest is as it was.
 use Prim.Native.Nat.{_-_}
 use native.Mathlib.Omega.{arith}
 use lib.ListN.{length}

@@ -1,4 +1,4 @@
--- `slices::copy_into` meets its contract. Assumes nothing.
+-- `slices::copy_into` meets its contract. The invariant: the symbols passed are written, the rest is as it was.
 use mathlib.Core.Path.{ap, _∙_}
 use Prim.Native.Nat.{ℕ, _-_}
 use native.Mathlib.Omega.{arith}

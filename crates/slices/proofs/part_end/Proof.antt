@@ -1,4 +1,4 @@
--- `slices::part_end` meets its contract. Assumes nothing.
+-- `slices::part_end` meets its contract: the part has a symbol and at most 224.
 use native.Mathlib.Omega.{arith}
 use borrow.Author.Needs.{needs}
 use Rattle.slices.proofs.part_end.Statement.{statement}

@@ -11,9 +11,16 @@ use Rattle.visits.specs.Progress.{both, at-checks, ready-subtract, ready
 use Rattle.visits.proofs.visit.Statement.{statement}
 use Rattle.visits.proofs.visit.Tie as tie
 
+-- the places: the start seen from the vote, and the vote seen from the end
+abbrev start : tie.After-voted → tie.Start
+start c = c .before .before .before .before .before .before .before .before .before
+
+abbrev vote : tie.After-changed → tie.After-voted
+vote c = c .before .before .before .before .before .before .before .before .before .before .before .before .before .before .before .before
+
 -- what the vote says to subtract is a symbol
-symbol : (c : tie.After-voted) → c .voted .result < c .before .before .before .before .before .before .before .before .before .args .code .q
-symbol c = let b = c .before .before .before .before .before .before .before .before .before in omega (arith, c .voted .ensures, ready-subtract _ _ (b .pre .0) (b .args .threshold) (b .args .j))
+symbol : (c : tie.After-voted) → c .voted .result < start c .args .code .q
+symbol c = let b = start c in omega (arith, c .voted .ensures, ready-subtract _ _ (b .pre .0) (b .args .threshold) (b .args .j))
 
 slice-read-own : tie.Need-slice-read-own
 slice-read-own c = search needs
@@ -36,20 +43,18 @@ same-length : tie.Need-same-length
 same-length c = search needs
 
 returns : tie.Need-returns
-returns c =
-    let b = c .before .before .before .before .before .before .before .before .before .before in
-    (visit-left _ _ _ _ _ _ (sym (c .if1 .taken) ∙ c .before .voted .ensures), b .pre .3)
+returns c = (visit-left _ _ _ _ _ _ (sym (c .if1 .taken) ∙ c .before .voted .ensures), start (c .before) .pre .3)
 
 subtract-symbol-requires : tie.Need-subtract-symbol-requires
 subtract-symbol-requires c κs =
     let v = c .before .before .before in
-    let p = v .before .before .before .before .before .before .before .before .before .pre in
+    let p = start v .pre in
     ready-symbol _ _ (p .0) _ _ (p .1) (symbol v)
 
 subtract-checks-requires : tie.Need-subtract-checks-requires
 subtract-checks-requires c κs =
     let v = c .before .before .before .before .before .before .before .before .before .before in
-    let p = v .before .before .before .before .before .before .before .before .before .pre in
+    let p = start v .pre in
     (at-checks _ _ (p .0), p .1, p .0 .bytes, symbol v, p .0 .sized .in-syndrome, p .3)
 
 changed-requires : tie.Need-changed-requires
@@ -69,7 +74,7 @@ same-length-5 c = search needs
 
 returns-2 : tie.Need-returns-2
 returns-2 c =
-    let v = c .before .before .before .before .before .before .before .before .before .before .before .before .before .before .before .before in
+    let v = vote c in
     let e = c .before .before .before .before .before .before .before .before .before .before .before .before .subtract-symbol .ensures in
     let s = c .before .before .before .before .before .subtract-checks .ensures in
     (both (changed-state _ _ _ _ _ _ _ (e .0) (s .0) (e .1)) (c .changed .ensures) ∙ visit-made _ _ _ _ _ _ (v .voted .result) (v .voted .ensures) (c .before .before .before .before .before .before .before .before .before .before .before .before .before .before .before .if1 .left), s .1)

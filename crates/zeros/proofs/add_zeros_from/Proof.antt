@@ -3,7 +3,8 @@ use mathlib.Core.Path.{sym, _∙_}
 use Prim.Native.Nat.{ℕ, _-_}
 use native.Mathlib.Omega.{arith}
 use lib.ListN.{length, length-take, length-drop}
-use Rattle.theory.specs.Parts.{below-part, lead-length, lead-below}
+use lib.Seq.{length-take-le}
+use Rattle.theory.specs.Parts.{below-part, lead-below}
 use Rattle.zeros.specs.Runs.{runs}
 use borrow.Author.Needs.{needs}
 use Rattle.zeros.proofs.add_zeros_from.Statement.{statement}
@@ -34,9 +35,7 @@ slice-relend-prefix-add-zeros : tie.Need-slice-relend-prefix-add-zeros
 slice-relend-prefix-add-zeros c = search needs
 
 slice-aggregate-add-zeros-2 : tie.Need-slice-aggregate-add-zeros-2
-slice-aggregate-add-zeros-2 c =
-    let a = c .before .before .before .before .before .before .before .before .args in
-    sym (lead-length (a .k - a .p) (a .acc .now) (omega arith) (c .before .before .before .add-zeros .last .0))
+slice-aggregate-add-zeros-2 c = sym (length-take-le _ _ (slice-relend-prefix-add-zeros (c .before)))
 
 sub-add-zeros-2 : tie.Need-sub-add-zeros-2
 sub-add-zeros-2 c = search needs

@@ -18,6 +18,10 @@ Inv-loop code positions s zeros₀ i₀ zeros i = (i ≤ length positions) × (z
 abbrev μ-loop : tie.MeasureT-loop
 μ-loop code positions s zeros₀ i₀ zeros i = length positions - i
 
+-- the start, seen from the loop
+abbrev start : tie.At-loop Inv-loop μ-loop → tie.Start Inv-loop μ-loop
+start c = c .before .before .before .before .before .before .before .before
+
 clear-requires : tie.Need-clear-requires Inv-loop μ-loop
 clear-requires c κs = search needs
 
@@ -36,12 +40,12 @@ shared-slice-read-add-zeros-from : tie.Need-shared-slice-read-add-zeros-from Inv
 shared-slice-read-add-zeros-from c = omega arith
 
 cast-add-zeros-from : tie.Need-cast-add-zeros-from Inv-loop μ-loop
-cast-add-zeros-from c = omega (arith, c .before .before .before .before .before .before .before .before .before .before .pre .0 .table .ascending .below (c .before .before .loop .i) (omega arith))
+cast-add-zeros-from c = omega (arith, start (c .before .before) .pre .0 .table .ascending .below (c .before .before .loop .i) (omega arith))
 
 add-zeros-from-requires : tie.Need-add-zeros-from-requires Inv-loop μ-loop
 add-zeros-from-requires c κs =
     let l = c .before .before .before .loop in
-    let b = c .before .before .before .before .before .before .before .before .before .before .before in
+    let b = start (c .before .before .before) in
     let done = codeBy (b .args .code) (take (l .i) (b .args .positions .now)) in (
       ap length (l .inv .1) ∙ length-zeroCounts done (b .args .s .now),
       b .pre .0 .len,
@@ -58,16 +62,16 @@ loop-less c = omega arith
 loop-again : tie.Need-loop-again Inv-loop μ-loop
 loop-again c =
     let l = c .before .before .before .before .before .before .loop in
-    let a = c .before .before .before .before .before .before .before .before .before .before .before .before .before .before .args in
+    let a = start (c .before .before .before .before .before .before) .args in
     (omega arith, c .before .before .add-zeros-from .ensures ∙ zeroCounts-turn (a .code) (a .positions .now) (a .s .now) (l .i) (omega arith) (l .zeros) (l .inv .1))
 
 same-length : tie.Need-same-length Inv-loop μ-loop
-same-length c = ap length (c .before .loop .inv .1) ∙ length-zeroCounts _ _ ∙ sym (c .before .before .before .before .before .before .before .before .before .pre .1)
+same-length c = ap length (c .before .loop .inv .1) ∙ length-zeroCounts _ _ ∙ sym (start (c .before) .pre .1)
 
 returns : tie.Need-returns Inv-loop μ-loop
 returns c =
     let l = c .before .loop in
-    let a = c .before .before .before .before .before .before .before .before .before .args in
+    let a = start (c .before) .args in
     l .inv .1 ∙ ap (λ (ps : List ℕ). zeroCounts (codeBy (a .code) ps) (a .s .now)) (take-all (l .i) (a .positions .now) (omega arith))
 
 pub count-zeros-spec : {M : Type 1} → statement M

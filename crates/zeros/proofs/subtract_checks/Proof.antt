@@ -17,9 +17,13 @@ Inv-loop code positions j h s₀ zeros₀ top i₀ s zeros i = Subtracted (code 
 abbrev μ-loop : tie.MeasureT-loop
 μ-loop code positions j h s₀ zeros₀ top i₀ s zeros i = length positions - i
 
+-- the start, seen from the loop
+abbrev start : tie.At-loop Inv-loop μ-loop → tie.Start Inv-loop μ-loop
+start c = c .before .before .before .before .before
+
 -- the syndrome in the loop is at the checks still
-at : (c : tie.At-loop Inv-loop μ-loop) → AtChecks (codeBy (c .before .before .before .before .before .args .code) (c .before .before .before .before .before .args .positions .now)) (c .loop .s)
-at c = let f = c .before .before .before .before .before .pre .0 in at-checks-of f (c .loop .s) (c .loop .inv .0 .sized)
+at : (c : tie.At-loop Inv-loop μ-loop) → AtChecks (codeBy (start c .args .code) (start c .args .positions .now)) (c .loop .s)
+at c = at-checks-of (start c .pre .0) (c .loop .s) (c .loop .inv .0 .sized)
 
 highest-requires : tie.Need-highest-requires Inv-loop μ-loop
 highest-requires c κs = omega arith
@@ -35,7 +39,7 @@ shared-slice-read-check-of c = omega arith
 
 check-of-requires : tie.Need-check-of-requires Inv-loop μ-loop
 check-of-requires c κs =
-    let p = c .before .before .before .before .before .before .before .pre in
+    let p = start (c .before .before) .pre in
     by-position (p .0) _ _ (p .1) (omega arith)
 
 slice-read-sub-mod : tie.Need-slice-read-sub-mod Inv-loop μ-loop
@@ -44,7 +48,7 @@ slice-read-sub-mod c = check-inside (at (c .before .before .before .before)) _ _
 sub-mod-requires : tie.Need-sub-mod-requires Inv-loop μ-loop
 sub-mod-requires c κs =
     let l = c .before .before .before .before in
-    let low = subtract-below (l .loop .inv .0) (omega arith) (l .before .before .before .before .before .pre .4) in
+    let low = subtract-below (l .loop .inv .0) (omega arith) (start l .pre .4) in
     omega (arith, low (c .before .check-of .result), l .before .highest .ensures)
 
 write-check-requires : tie.Need-write-check-requires Inv-loop μ-loop
@@ -65,7 +69,7 @@ loop-again c =
     let w = c .before .before .before .before .write-check .ensures in
     let chk = c .before .before .before .before .before .before .before .before .before .check-of in (
       subtract-turn (l .loop .inv .0) _ _ _ (omega arith) (chk .ensures)
-          (c .before .before .before .before .before .before .before .sub-mod .ensures ∙ ap (λ (q : ℕ). sub q (getD (l .loop .s) (chk .result) 0) (l .before .before .before .before .before .args .h)) (l .before .highest .ensures)) (w .0),
+          (c .before .before .before .before .before .before .before .sub-mod .ensures ∙ ap (λ (q : ℕ). sub q (getD (l .loop .s) (chk .result) 0) (start l .args .h)) (l .before .highest .ensures)) (w .0),
       w .1 ∙ ap (zeroCounts _) (sym (w .0)),
     )
 
@@ -73,7 +77,7 @@ same-length : tie.Need-same-length Inv-loop μ-loop
 same-length c = c .before .loop .inv .0 .sized
 
 same-length-2 : tie.Need-same-length-2 Inv-loop μ-loop
-same-length-2 c = ap length (c .before .loop .inv .1) ∙ length-zeroCounts _ _ ∙ sym (ap length (c .before .before .before .before .before .before .pre .5) ∙ length-zeroCounts _ _)
+same-length-2 c = ap length (c .before .loop .inv .1) ∙ length-zeroCounts _ _ ∙ sym (ap length (start (c .before) .pre .5) ∙ length-zeroCounts _ _)
 
 returns : tie.Need-returns Inv-loop μ-loop
 returns c = (subtract-all (c .before .loop .inv .0) (omega arith), c .before .loop .inv .1)

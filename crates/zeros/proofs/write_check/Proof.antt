@@ -4,6 +4,7 @@ use Prim.Native.Nat.{_-_}
 use native.Mathlib.Omega.{arith}
 use borrow.Author.Needs.{needs}
 use lib.ListN.{length, length-set}
+use Rattle.model.specs.Code.{Code}
 use Rattle.params.specs.Codes.{codeBy}
 use Rattle.checks.specs.Checks.{by-position}
 use Rattle.zeros.specs.Recount.{Recounted, Write, Turn, write-sized, recount-none, recount-turn, recount-all, recount-same}
@@ -16,19 +17,27 @@ Inv-loop code positions c v s zeros₀ lost gained i₀ zeros i = Recounted (cod
 abbrev μ-loop : tie.MeasureT-loop
 μ-loop code positions c v s zeros₀ lost gained i₀ zeros i = length positions - i
 
--- the write, where both flags are known
-write : (c : tie.After-equal2 Inv-loop μ-loop)
-    → Write (codeBy (c .before .before .before .before .before .before .args .code) (c .before .before .before .before .before .before .args .positions .now)) (c .before .before .before .before .before .before .args .s .now) (c .before .before .before .before .before .before .args .c) (c .before .before .before .before .before .before .args .v)
-    (c .equal2 .result) (c .before .equal .result) (c .before .before .before .before .before .before .args .zeros .now)
+-- the places: the start seen from where both flags are known, and that seen from the loop
+abbrev start : tie.After-equal2 Inv-loop μ-loop → tie.Start Inv-loop μ-loop
+start c = c .before .before .before .before .before .before
+
+abbrev flags : tie.At-loop Inv-loop μ-loop → tie.After-equal2 Inv-loop μ-loop
+flags c = c .before .before
+
+abbrev codeAt : tie.After-equal2 Inv-loop μ-loop → Code
+codeAt c = codeBy (start c .args .code) (start c .args .positions .now)
+
+-- the write
+write : (c : tie.After-equal2 Inv-loop μ-loop) → Write (codeAt c) (start c .args .s .now) (start c .args .c) (start c .args .v) (c .equal2 .result) (c .before .equal .result) (start c .args .zeros .now)
 write c =
-    let p = c .before .before .before .before .before .before .pre in
+    let p = start c .pre in
     record { fits = p .0; inside = p .1; counted = p .2; gain = c .equal2 .ensures .0; loss = c .before .equal .ensures .0 }
 
 -- a turn, at the data symbol that it counts again
 turn : (c : tie.After-slice-known4 Inv-loop μ-loop)
-    → Turn (codeBy (c .before .before .before .before .before .before .before .before .before .before .before .before .args .code) (c .before .before .before .before .before .before .before .before .before .before .before .before .args .positions .now)) (c .before .before .before .before .before .before .before .before .before .before .before .before .args .c) (c .before .before .before .before .before .before .equal2 .result) (c .before .before .before .before .before .before .before .equal .result)
-    (c .before .before .before .before .before .before .before .before .before .before .before .before .args .zeros .now) (c .before .before .before .before .loop .i) (c .before .before .before .before .loop .zeros) (c .before .symbol-of .result)
-turn c = recount-turn (write (c .before .before .before .before .before .before)) (c .before .before .before .before .loop .inv) (omega arith) (c .before .symbol-of .ensures)
+    → Turn (codeAt (flags (c .before .before .before .before))) (start (flags (c .before .before .before .before)) .args .c) (flags (c .before .before .before .before) .equal2 .result) (flags (c .before .before .before .before) .before .equal .result)
+    (start (flags (c .before .before .before .before)) .args .zeros .now) (c .before .before .before .before .loop .i) (c .before .before .before .before .loop .zeros) (c .before .symbol-of .result)
+turn c = recount-turn (write (flags (c .before .before .before .before))) (c .before .before .before .before .loop .inv) (omega arith) (c .before .symbol-of .ensures)
 
 slice-read-equal : tie.Need-slice-read-equal Inv-loop μ-loop
 slice-read-equal c = omega arith
@@ -43,7 +52,7 @@ slice-write-s : tie.Need-slice-write-s Inv-loop μ-loop
 slice-write-s c = omega arith
 
 same-length : tie.Need-same-length Inv-loop μ-loop
-same-length c = length-set (c .before .before .before .before .before .before .before .args .s .now) _ _
+same-length c = length-set (start (c .before) .args .s .now) _ _
 
 returns : tie.Need-returns Inv-loop μ-loop
 returns c = (refl, recount-same (write (c .before)) (omega arith))
@@ -59,7 +68,7 @@ shared-slice-read-symbol-of c = omega arith
 
 symbol-of-requires : tie.Need-symbol-of-requires Inv-loop μ-loop
 symbol-of-requires c κs =
-    let p = c .before .before .before .before .before .before .before .before .before .before .pre in
+    let p = start (flags (c .before .before)) .pre in
     by-position (p .0) _ _ (p .1) (omega arith)
 
 slice-read-zeros : tie.Need-slice-read-zeros Inv-loop μ-loop
@@ -84,13 +93,13 @@ loop-again : tie.Need-loop-again Inv-loop μ-loop
 loop-again c = turn c .next
 
 same-length-2 : tie.Need-same-length-2 Inv-loop μ-loop
-same-length-2 c = length-set (c .before .before .before .before .before .before .before .before .before .args .s .now) _ _
+same-length-2 c = length-set (start (flags (c .before)) .args .s .now) _ _
 
 same-length-3 : tie.Need-same-length-3 Inv-loop μ-loop
-same-length-3 c = omega (arith, write-sized (write (c .before .before .before)))
+same-length-3 c = omega (arith, write-sized (write (flags (c .before))))
 
 returns-2 : tie.Need-returns-2 Inv-loop μ-loop
-returns-2 c = (refl, recount-all (write (c .before .before .before)) (c .before .loop .inv) (omega arith))
+returns-2 c = (refl, recount-all (write (flags (c .before))) (c .before .loop .inv) (omega arith))
 
 pub write-check-spec : {M : Type 1} → statement M
 write-check-spec =
