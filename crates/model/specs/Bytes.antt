@@ -1,12 +1,13 @@
--- What the C calls read and write as bytes, low byte first: the positions of a table, and the counts of a decode.
+-- What the C calls read and write as bytes, low byte first: the positions of a table, the margins and the counts of a decode.
 use mathlib.Core.Bool.{_&&_}
 use mathlib.Core.List.{List, [], _∷_, _++_}
-use Prim.Native.Nat.{ℕ, _+_, _*_, _/_, _%_}
+use Prim.Native.Nat.{ℕ, _+_, _-_, _*_, _/_, _%_}
 use lib.Dec.{eqb}
+use lib.IntN.{ℤ, pos, negsuc}
 use lib.ListN.{length, getD}
 use Rattle.model.specs.Symbols.{choose, tabulate}
-use Rattle.model.specs.Code.{Code}
-use Rattle.model.specs.Decoder.{State, Counts, decodedState, decodedCounts}
+use Rattle.model.specs.Code.{Code, dataCount}
+use Rattle.model.specs.Decoder.{State, Counts, decodedState, decodedCounts, marginsOf}
 use Rattle.model.specs.Calls.{Outcome, outcome, Decoded, decodeFits, decodeAnswer}
 
 -- the two-byte number i of a byte string
@@ -26,9 +27,20 @@ wordOf n = n % 256 ∷ n / 256 % 256 ∷ n / 65536 % 256 ∷ n / 16777216 % 256 
 unfoldable pub bytesOf : Counts → List ℕ
 bytesOf n = wordOf (n .passes) ++ wordOf (n .changes) ++ wordOf (n .start) ++ wordOf (n .end)
 
--- "counts 16 bytes, in the C form only": the C form of decode also lends the counts
-abbrev pub cDecodeOutcome : Code → List ℕ → List ℕ → State → List ℕ → Outcome (Decoded (List ℕ))
-cDecodeOutcome c page thresholds lent counts =
-    outcome (decodeAnswer c (eqb (length counts) 16 && decodeFits c page lent) page thresholds)
-    (record { state = decodedState c thresholds page; counts = bytesOf (decodedCounts c thresholds page) })
-    (record { state = lent; counts = counts })
+-- "negative numbers in two's complement": −1 is the largest 32-bit number
+abbrev pub twos : ℤ → ℕ
+twos (pos n) = n
+twos (negsuc n) = 4294967295 - n
+
+-- "one signed 32-bit number a symbol": four bytes each
+unfoldable pub marginBytes : List ℤ → List ℕ
+marginBytes [] = []
+marginBytes (m ∷ ms) = wordOf (twos m) ++ marginBytes ms
+
+-- "counts 16 bytes, in the C form only": the C form of decode also lends the counts, and the margins are 4 bytes a data symbol
+unfoldable pub cDecodeOutcome : Code → List ℕ → List ℕ → State → List ℕ → List ℕ → Outcome (Decoded (List ℕ) (List ℕ))
+cDecodeOutcome c page thresholds lent margins counts =
+    let st = decodedState c thresholds page in
+    outcome (decodeAnswer c ((eqb (length margins) (4 * dataCount c) && eqb (length counts) 16) && decodeFits c page lent) page thresholds)
+    (record { state = st; margins = marginBytes (marginsOf c st); counts = bytesOf (decodedCounts c thresholds page) })
+    (record { state = lent; margins = margins; counts = counts })

@@ -3,10 +3,11 @@ use mathlib.Core.Bool.{Bool, true, not, _&&_}
 use mathlib.Core.List.{List, [], _∷_, _++_}
 use Prim.Native.Nat.{ℕ, suc}
 use lib.Dec.{eqb, ltb, leb}
+use lib.IntN.{ℤ}
 use lib.ListN.{length}
 use Rattle.model.specs.Symbols.{choose}
 use Rattle.model.specs.Code.{Code, dataCount, checkCount, pageLength, checksEach, codeWord, syndrome, selfOrthogonal}
-use Rattle.model.specs.Decoder.{State, Counts, decodedState, decodedCounts}
+use Rattle.model.specs.Decoder.{State, Counts, decodedState, decodedCounts, marginsOf}
 
 -- ---- tests
 
@@ -107,22 +108,21 @@ encodeOutcome c u page = outcome (encodeAnswer c u (length page)) (codeWord c u)
 unfoldable pub syndromeOutcome : Code → List ℕ → List ℕ → Outcome (List ℕ)
 syndromeOutcome c page s = outcome (syndromeAnswer c page (length s)) (syndrome c page) s
 
--- decode's three buffers, and its counts, as numbers or as bytes
-pub record Decoded (A : Type 0) : Type 0 where
+-- decode's three buffers, its margins and its counts, as numbers or as bytes
+pub record Decoded (M C : Type 0) : Type 0 where
   pub state : State
-  pub counts : A
+  pub margins : M
+  pub counts : C
 
 -- "refused, its Rattle form returns four zeros beside the number"
 abbrev pub noCounts : Counts
 noCounts = record { passes = 0; changes = 0; start = 0; end = 0 }
 
--- "Afterwards the lent buffers hold the result, S and D": decode whose lent buffers fit or not
-unfoldable pub decodeOutcomeBy : Code → Bool → List ℕ → List ℕ → State → Outcome (Decoded Counts)
-decodeOutcomeBy c fits page thresholds lent =
-    outcome (decodeAnswer c fits page thresholds)
-    (record { state = decodedState c thresholds page; counts = decodedCounts c thresholds page })
-    (record { state = lent; counts = noCounts })
-
--- the Rattle form lends no other buffer
-abbrev pub decodeOutcome : Code → List ℕ → List ℕ → State → Outcome (Decoded Counts)
-decodeOutcome c page thresholds lent = decodeOutcomeBy c (decodeFits c page lent) page thresholds lent
+-- "Afterwards the lent buffers hold the result, S and D"; "Decode fills one more lent buffer from the S and D it hands back";
+-- "6 covers a margin buffer that isn't k long"
+unfoldable pub decodeOutcome : Code → List ℕ → List ℕ → State → List ℤ → Outcome (Decoded (List ℤ) Counts)
+decodeOutcome c page thresholds lent margins =
+    let st = decodedState c thresholds page in
+    outcome (decodeAnswer c (eqb (length margins) (dataCount c) && decodeFits c page lent) page thresholds)
+    (record { state = st; margins = marginsOf c st; counts = decodedCounts c thresholds page })
+    (record { state = lent; margins = margins; counts = noCounts })

@@ -1,12 +1,13 @@
 -- The decoder's steps: visit, pass, run, and what decoding a page gives.
 -- A step depends on the code by q and by the checks of each data symbol alone, which are its first parameters.
 use mathlib.Core.Bool.{Bool, not, _&&_}
-use mathlib.Core.List.{List, [], _∷_, _++_}
+use mathlib.Core.List.{List, [], _∷_, _++_, map}
 use Prim.Native.Nat.{ℕ, _+_, _-_}
 use lib.Dec.{eqb, ltb}
+use lib.IntN.{ℤ}
 use lib.ListN.{length, getD, set}
 use Rattle.model.specs.Symbols.{choose, bit, sub, distance, tabulate, symbolsAt, subtractAt}
-use Rattle.model.specs.Vote.{leader, leadCount, nextCount}
+use Rattle.model.specs.Vote.{leader, leadCount, nextCount, margin}
 use Rattle.model.specs.Code.{Code, dataCount, checksOf, codeWord, syndrome, dataOf}
 
 -- the result, S ("the syndrome") and D ("the difference")
@@ -114,3 +115,7 @@ decodedCounts c thresholds page = record {
   start = distanceTo c page (opened c page);
   end = distanceTo c page (decodedState c thresholds page);
 }
+
+-- "For each data symbol we want its margin": from S and D of a state (N1)
+unfoldable pub marginsOf : Code → State → List ℤ
+marginsOf c st = map (λ j. margin (estimates (checksOf c j) j st)) (dataSymbols c)

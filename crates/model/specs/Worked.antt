@@ -7,11 +7,12 @@ use Prim.Native.Nat.{ℕ, _+_, _%_, _<_, _≤_}
 use native.Mathlib.Nat.{mod-eq-of-lt}
 use native.Mathlib.Omega.{arith}
 use lib.Dec.{T}
+use lib.IntN.{ℤ, pos, negsuc}
 use Rattle.model.specs.Symbols.{sub, same, differ, count, distance, sumOver, tabulate, symbolsAt, subtractAt}
 use Rattle.model.specs.Code.{Code, codeOf, dataCount, checkCount, pageLength, checksOf, checksBy, checkSumBy, checkSymbol, checkSymbols, codeWord, syndrome, shared, everyBelow, selfOrthogonal, differencesFrom, differencesBy, differences, allDifferent}
-use Rattle.model.specs.Vote.{firstOf, leader, leadCount, otherCount, nextCount, Votes, votes}
-use Rattle.model.specs.Decoder.{Counts, estimates, isChange, change, changes, visit, after, changeCount, pass, passes, thresholdsRun, opened, passesOf, run, distanceTo, decodedState, decodedCounts}
-use Rattle.model.specs.Calls.{firstThatApplies, within, positionsFit, allBelow, sizeTests, tableTests, pageTests, thresholdTests, tableAnswer, encodeAnswer, decodeAnswer, Outcome, outcome, encodeOutcome, Decoded, decodeOutcome, decodeOutcomeBy}
+use Rattle.model.specs.Vote.{firstOf, leader, leadCount, otherCount, nextCount, Votes, votes, margin}
+use Rattle.model.specs.Decoder.{stateBy, State, Counts, estimates, isChange, change, changes, visit, after, changeCount, pass, passes, thresholdsRun, opened, passesOf, run, distanceTo, decodedState, decodedCounts, marginsOf}
+use Rattle.model.specs.Calls.{firstThatApplies, within, positionsFit, allBelow, sizeTests, tableTests, pageTests, thresholdTests, tableAnswer, encodeAnswer, decodeAnswer, Outcome, outcome, encodeOutcome, Decoded, decodeOutcome}
 use Rattle.model.specs.Demand.{VisitFalls, WithinBound}
 
 -- A row: a call's inputs, and what it must give.
@@ -20,29 +21,38 @@ data Row : Type 0 where
   table : (c : Code) (answer : ℕ) (different : Bool) → Row
   -- encode's number and page
   encoded : (c : Code) (u : List ℕ) (given : Outcome (List ℕ)) → Row
-  -- decode's number, counts, result, S and D
-  decoded : (c : Code) (thresholds page : List ℕ) (given : Outcome (Decoded Counts)) → Row
-  -- the vote over a list of estimates, and whether it is a change at a threshold
-  voted : (es : List ℕ) (threshold : ℕ) (given : Votes) (changed : Bool) → Row
+  -- decode's number, counts, result, S, D and margins
+  decoded : (c : Code) (thresholds page : List ℕ) (given : Outcome (Decoded (List ℤ) Counts)) → Row
+  -- decode's number, from a margin buffer of this length
+  tested : (c : Code) (thresholds page : List ℕ) (margins : ℕ) (answer : ℕ) → Row
+  -- the vote over a list of estimates, its margin, and whether it is a change at a threshold
+  voted : (es : List ℕ) (threshold : ℕ) (given : Votes) (margin : ℤ) (changed : Bool) → Row
 
-zeros : ℕ → List ℕ
-zeros n = tabulate n (λ i. 0)
+times : ℕ → ℕ → List ℕ
+times n x = tabulate n (λ i. x)
 
--- what a lent buffer holds before a call
-lent : ℕ → List ℕ
-lent n = tabulate n (λ i. 165)
+abbrev zeros : ℕ → List ℕ
+zeros n = times n 0
+
+-- what lent buffers hold before a call
+abbrev lent : ℕ → List ℕ
+lent n = times n 165
+
+abbrev lentState : Code → State
+lentState c = stateBy (lent (dataCount c)) (lent (checkCount c)) (lent (dataCount c))
 
 -- the row with what the definitions give for its inputs
 computed : Row → Row
-unfolding firstThatApplies within positionsFit allBelow sizeTests tableTests pageTests thresholdTests tableAnswer encodeAnswer decodeAnswer outcome encodeOutcome decodeOutcomeBy
+unfolding firstThatApplies within positionsFit allBelow sizeTests tableTests pageTests thresholdTests tableAnswer encodeAnswer decodeAnswer outcome encodeOutcome decodeOutcome
     checksBy checkSumBy checkSymbol checkSymbols codeWord syndrome shared everyBelow selfOrthogonal differencesFrom differencesBy allDifferent
-    firstOf leader leadCount otherCount nextCount estimates isChange change changes visit after changeCount pass passes thresholdsRun opened passesOf run distanceTo decodedState decodedCounts
-    sub same differ count distance sumOver tabulate symbolsAt subtractAt lent
+    firstOf leader leadCount otherCount nextCount estimates isChange change changes visit after changeCount pass passes thresholdsRun opened passesOf run distanceTo decodedState decodedCounts margin marginsOf
+    sub same differ count distance sumOver tabulate symbolsAt subtractAt times
 computed (table c a d) = table c (tableAnswer c) (allDifferent (differences c))
 computed (encoded c u g) = encoded c u (encodeOutcome c u (lent (pageLength c)))
 computed (decoded c ts page g) =
-    decoded c ts page (decodeOutcome c page ts (record { result = lent (dataCount c); syndrome = lent (checkCount c); difference = lent (dataCount c) }))
-computed (voted es t g b) = voted es t (votes es) (isChange t es)
+    decoded c ts page (decodeOutcome c page ts (lentState c) (map pos (lent (dataCount c))))
+computed (tested c ts page m n) = tested c ts page m (decodeOutcome c page ts (lentState c) (map pos (lent m)) .number)
+computed (voted es t g m b) = voted es t (votes es) (margin es) (isChange t es)
 
 -- "Code A is k = 13 with positions 0, 1, 4, 6."
 codeA : Code
@@ -51,11 +61,12 @@ codeA = codeOf 256 13 (0 ∷ 1 ∷ 4 ∷ 6 ∷ [])
 accepted : List ℕ → Outcome (List ℕ)
 accepted page = record { number = 0; left = page }
 
-found : List ℕ → List ℕ → List ℕ → ℕ → ℕ → ℕ → ℕ → Outcome (Decoded Counts)
-found r s d passes changes start end = record {
+found : List ℕ → List ℕ → List ℕ → List ℤ → ℕ → ℕ → ℕ → ℕ → Outcome (Decoded (List ℤ) Counts)
+found r s d margins passes changes start end = record {
   number = 0;
   left = record {
-    state = record { result = r; syndrome = s; difference = d };
+    state = stateBy r s d;
+    margins = margins;
     counts = record { passes = passes; changes = changes; start = start; end = end };
   };
 }
@@ -65,7 +76,7 @@ vote h m0 m1 z = record { leader = h; lead = m0; next = m1; zeros = z }
 
 -- the cases marked ●
 rows : List Row
-unfolding codeA accepted found zeros tabulate
+unfolding codeA accepted found times tabulate
 rows =
     -- 1
     table (codeOf 256 13 (0 ∷ 1 ∷ 4 ∷ 6 ∷ [])) 0 true
@@ -82,16 +93,17 @@ rows =
     ∷ encoded codeA (10 ∷ zeros 11 ++ (250 ∷ []))
     (accepted (10 ∷ zeros 11 ++ (250 ∷ 4 ∷ 10 ∷ 0 ∷ 250 ∷ 10 ∷ 250 ∷ 10 ∷ zeros 5 ++ (250 ∷ []))))
     -- 6
-    ∷ decoded codeA (2 ∷ 2 ∷ []) (7 ∷ zeros 25) (found (zeros 13) (zeros 13) (249 ∷ zeros 12) 2 1 4 1)
+    ∷ decoded codeA (2 ∷ 2 ∷ []) (7 ∷ zeros 25) (found (zeros 13) (zeros 13) (249 ∷ zeros 12) (map pos (3 ∷ times 12 5)) 2 1 4 1)
     -- 7
-    ∷ decoded codeA (3 ∷ 2 ∷ []) (7 ∷ zeros 25) (found (7 ∷ zeros 12) (7 ∷ 7 ∷ 0 ∷ 0 ∷ 7 ∷ 0 ∷ 7 ∷ zeros 6) (zeros 13) 1 0 4 4)
+    ∷ decoded codeA (3 ∷ 2 ∷ []) (7 ∷ zeros 25) (found (7 ∷ zeros 12) (7 ∷ 7 ∷ 0 ∷ 0 ∷ 7 ∷ 0 ∷ 7 ∷ zeros 6) (zeros 13) (negsuc 2 ∷ map pos (times 12 3)) 1 0 4 4)
     -- 8
-    ∷ decoded codeA (0 ∷ []) (zeros 15 ++ (9 ∷ zeros 10)) (found (zeros 13) (0 ∷ 0 ∷ 247 ∷ zeros 10) (zeros 13) 1 0 1 1)
+    ∷ decoded codeA (0 ∷ []) (zeros 15 ++ (9 ∷ zeros 10)) (found (zeros 13) (0 ∷ 0 ∷ 247 ∷ zeros 10) (zeros 13)
+    (map pos (5 ∷ 3 ∷ 3 ∷ 5 ∷ 5 ∷ 5 ∷ 5 ∷ 5 ∷ 5 ∷ 3 ∷ 5 ∷ 3 ∷ 5 ∷ [])) 1 0 1 1)
     -- 9
-    ∷ decoded codeA (0 ∷ 0 ∷ []) (7 ∷ 3 ∷ zeros 24) (found (zeros 13) (zeros 13) (249 ∷ 253 ∷ zeros 11) 2 2 7 2)
+    ∷ decoded codeA (0 ∷ 0 ∷ []) (7 ∷ 3 ∷ zeros 24) (found (zeros 13) (zeros 13) (249 ∷ 253 ∷ zeros 11) (map pos (3 ∷ 3 ∷ times 11 5)) 2 2 7 2)
     -- 10
     ∷ decoded codeA (0 ∷ []) (zeros 13 ++ (251 ∷ 251 ∷ 0 ∷ 0 ∷ 251 ∷ zeros 8))
-    (found (251 ∷ zeros 12) (zeros 6 ++ (251 ∷ zeros 6)) (251 ∷ zeros 12) 1 1 3 2)
+    (found (251 ∷ zeros 12) (zeros 6 ++ (251 ∷ zeros 6)) (251 ∷ zeros 12) (map pos (1 ∷ 5 ∷ 3 ∷ 5 ∷ 5 ∷ 3 ∷ 3 ∷ times 6 5)) 1 1 3 2)
     ∷ []
 
 worked : map computed rows ≡ rows
@@ -106,16 +118,22 @@ twice q x h = ap (λ (v : ℕ). x ∷ v ∷ []) (ap (λ (n : ℕ). n % q) (let e
 -- Rows that pin misreadings: case 14 tells a vote by absolute majority from the steps and pins the tie; a page of three checks tells votes
 -- taken from the syndrome as it was at the start of the pass.
 misreadings : List Row
-unfolding found vote zeros tabulate
+unfolding codeA found vote times tabulate
 misreadings =
     -- 14
-    voted (2 ∷ 2 ∷ 1 ∷ 1 ∷ 0 ∷ []) 0 (vote 1 2 2 1) false
-    ∷ voted (7 ∷ 7 ∷ 0 ∷ 9 ∷ 1 ∷ []) 0 (vote 7 2 1 1) true
-    ∷ voted (7 ∷ 7 ∷ 0 ∷ 9 ∷ 1 ∷ []) 1 (vote 7 2 1 1) false
+    voted (2 ∷ 2 ∷ 1 ∷ 1 ∷ 0 ∷ []) 0 (vote 1 2 2 1) (negsuc 0) false
+    ∷ voted (7 ∷ 7 ∷ 0 ∷ 9 ∷ 1 ∷ []) 0 (vote 7 2 1 1) (negsuc 0) true
+    ∷ voted (7 ∷ 7 ∷ 0 ∷ 9 ∷ 1 ∷ []) 1 (vote 7 2 1 1) (negsuc 0) false
+    -- N1: a margin runs "from −(J + 1) to J + 1"
+    ∷ voted (times 5 0) 0 (vote 0 5 0 5) (pos 5) false
+    ∷ voted (times 5 7) 0 (vote 7 5 0 0) (negsuc 4) true
+    -- "6 covers a margin buffer that isn't k long", before 8
+    ∷ tested codeA (0 ∷ []) (zeros 26) 13 0
+    ∷ tested codeA [] (zeros 26) 12 6
     -- k = 3, positions 0, 1, all three received checks 251, so s is 5 everywhere: symbol 0 has estimates 0, 5, 5 and changes,
     -- which leaves s(0) and s(1) 0, so that symbols 1 and 2 have estimates 0, 0, 5 and stay
     ∷ decoded (codeOf 256 3 (0 ∷ 1 ∷ [])) (0 ∷ []) (zeros 3 ++ (251 ∷ 251 ∷ 251 ∷ []))
-    (found (251 ∷ zeros 2) (0 ∷ 0 ∷ 5 ∷ []) (251 ∷ zeros 2) 1 1 3 2)
+    (found (251 ∷ zeros 2) (0 ∷ 0 ∷ 5 ∷ []) (251 ∷ zeros 2) (map pos (times 3 1)) 1 1 3 2)
     ∷ []
 
 told-apart : map computed misreadings ≡ misreadings
@@ -129,7 +147,7 @@ pageSix : List ℕ
 pageSix = 7 ∷ zeros 25
 
 falls-by-three : VisitFalls 256 (checksOf codeA) (distanceTo codeA pageSix) (record { symbol = 0; threshold = 2 }) (opened codeA pageSix)
-unfolding codeA pageSix zeros checksBy checkSumBy checkSymbol checkSymbols codeWord syndrome firstOf leader leadCount otherCount nextCount
+unfolding codeA pageSix times checksBy checkSumBy checkSymbol checkSymbols codeWord syndrome firstOf leader leadCount otherCount nextCount
     estimates isChange change changes visit opened distanceTo sub same differ count distance sumOver tabulate symbolsAt subtractAt
 falls-by-three = record { lowered = (λ e. let f : 1 + 2 < 4 = omega arith in f); left = (λ e. absurd (subst T e tt)) }
 

@@ -182,6 +182,9 @@ distance-sum (suc n) (x ∷ xs) (y ∷ ys) ex ey =
 pub same-le : (a b : ℕ) → same a b ≤ 1
 same-le a b = omega (arith, same-differ a b)
 
+pub same-eq : (a b : ℕ) → 0 < same a b → a ≡ b
+same-eq a b h = elim (ℕ-discrete a b) as (λ d. a ≡ b) [ yes e ↦ e | no n ↦ absurd (omega (arith, same-no a b n)) ]
+
 pub differ-le : (a b : ℕ) → differ a b ≤ 1
 differ-le a b = omega (arith, same-differ a b)
 

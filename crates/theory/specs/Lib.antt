@@ -16,6 +16,8 @@ pub mod Outcomes
 pub mod Runs
 pub mod Decoding
 pub mod Moments
+pub mod Integers
+pub mod Margins
 pub mod Statements
 pub mod Turns
 pub mod Written

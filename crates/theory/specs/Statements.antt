@@ -3,22 +3,26 @@ use mathlib.Core.Path.{_≡_, ap, sym, _∙_, subst}
 use mathlib.Core.Logic.{_≢_, _↔_}
 use mathlib.Core.Bool.{Bool, true, _&&_}
 use mathlib.Core.List.{List, [], _∷_, _++_}
-use Prim.Native.Nat.{ℕ, _%_, _≤_, _<_}
+use Prim.Native.Nat.{ℕ, suc, _%_, _≤_, _<_}
 use native.Mathlib.Omega.{arith}
-use lib.ListN.{length, getD}
+use lib.Dec.{eqb}
+use lib.IntN.{pos, negℤ, _-ℤ_}
+use lib.ListN.{length, getD, length-map}
+use lib.Signed.{_≤ℤ_}
 use Rattle.model.specs.Calls.{decodeFits, tableAnswer, decodeAnswer}
-use Rattle.model.specs.Code.{Code, dataCount, checkCount, pageLength, checksOf, checkSymbol, checkSymbols, dataOf, receivedChecks, SelfOrthogonal, differences, allDifferent}
-use Rattle.model.specs.Decoder.{State, Visit, after, passes, dataSymbols, opened, passesOf, run, distanceTo, Counts, decodedState, decodedCounts}
+use Rattle.model.specs.Code.{Code, dataCount, checkCount, pageLength, checksEach, checksOf, checkSymbol, checkSymbols, dataOf, receivedChecks, SelfOrthogonal, differences, allDifferent}
+use Rattle.model.specs.Decoder.{State, Visit, estimates, changes, visit, after, passes, dataSymbols, opened, passesOf, run, distanceTo, Counts, decodedState, decodedCounts, marginsOf}
 use Rattle.model.specs.Demand.{VisitFalls, Falls, RunFalls, DecodeFalls, Recovers, DecodeRecovers}
 use Rattle.model.specs.Limits.{TableLimits, Limits}
-use Rattle.model.specs.Symbols.{count, addEach, subEach}
-use Rattle.model.specs.Vote.{leader, leadCount, nextCount}
+use Rattle.model.specs.Symbols.{choose, count, addEach, subEach}
+use Rattle.model.specs.Vote.{leader, leadCount, nextCount, votes, margin}
 use Rattle.theory.specs.Answers.{table-accepted, table-accepts, table-usable, Taken, decode-taken}
 use Rattle.theory.specs.Codes.{code-incidence, check-symbol, check-symbols}
-use Rattle.theory.specs.Counting.{All}
+use Rattle.theory.specs.Counting.{All, length-symbolsAt}
 use Rattle.theory.specs.Decoding.{code-falls, code-received, code-sized, code-tied, code-distance, code-recovers}
 use Rattle.theory.specs.Distance.{length-tabulate}
-use Rattle.theory.specs.Falling.{InRange, weight-falls, falls-at}
+use Rattle.theory.specs.Falling.{InRange, visit-no, weight-falls, falls-at}
+use Rattle.theory.specs.Margins.{margin-low, margin-high, margin-top, margin-bottom, other-zero, margin-stays, margin-at}
 use Rattle.theory.specs.Moments.{result-is, syndrome-is, runs-few, first-run, changes-few, weight-few}
 use Rattle.theory.specs.Runs.{range-passes, symbols-range, symbols-visited}
 use Rattle.theory.specs.Steps.{checkSum, SymbolsBelow, Sized, stateWeight}
@@ -166,3 +170,43 @@ vote-means es h = record {
   others = next-max es;
   largest = next-least es;
 }
+
+-- ---- 5. margins (N1)
+
+-- The margin of a list of estimates lies between their number and its negative. It is their number where every estimate is 0, and its negative
+-- where all are one value other than 0, and only there. Its two terms are read off the vote: the zeros, and m1 where the leader is 0, else m0.
+pub record MarginMeans (es : List ℕ) : Type 0 where
+  pub low : negℤ (pos (length es)) ≤ℤ margin es
+  pub high : margin es ≤ℤ pos (length es)
+  pub all-zero : (margin es ≡ pos (length es)) ↔ All (λ e. e ≡ 0) es
+  pub all-other : (margin es ≡ negℤ (pos (length es))) ↔ ((v : ℕ) × (v ≢ 0) × All (λ e. e ≡ v) es)
+  pub read-off : margin es ≡ pos (votes es .zeros) -ℤ pos (choose (eqb (votes es .leader) 0) (votes es .next) (votes es .lead))
+
+pub margin-means : (es : List ℕ) → 0 < length es → MarginMeans es
+unfolding margin
+margin-means es h = record {
+  low = margin-low es;
+  high = margin-high es;
+  all-zero = margin-top es;
+  all-other = margin-bottom es h;
+  read-off = ap (λ (n : ℕ). pos (count 0 es) -ℤ pos n) (other-zero es);
+}
+
+-- Of an accepted table each data symbol has J + 1 estimates: so its margin runs from −(J + 1) to J + 1.
+pub estimate-count : (c : Code) → tableAnswer c ≡ 0 → (j : ℕ) → j < dataCount c → (st : State) → length (estimates (checksOf c j) j st) ≡ suc (checksEach c)
+unfolding estimates
+estimate-count c e j h st = ap suc (length-symbolsAt (st .syndrome) (checksOf c j) ∙ code-incidence c (table-usable c e) .size j h)
+
+-- A visit with threshold T alters nothing where the margin is at least −T.
+pub firm-stays : (q : ℕ) (checks : ℕ → List ℕ) (v : Visit) (st : State)
+    → negℤ (pos (v .threshold)) ≤ℤ margin (estimates (checks (v .symbol)) (v .symbol) st) → visit q checks v st ≡ st
+unfolding changes
+firm-stays q checks v st h = visit-no q checks v st (margin-stays (v .threshold) (estimates (checks (v .symbol)) (v .symbol) st) h)
+
+-- The margins of a state are one for each data symbol, in order.
+pub margin-count : (c : Code) (st : State) → length (marginsOf c st) ≡ dataCount c
+unfolding marginsOf
+margin-count c st = length-map (dataSymbols c) (λ j. margin (estimates (checksOf c j) j st)) ∙ length-tabulate (dataCount c) (λ j. j)
+
+pub margin-of : (c : Code) (st : State) (j : ℕ) → j < dataCount c → getD (marginsOf c st) j (pos 0) ≡ margin (estimates (checksOf c j) j st)
+margin-of c st j h = margin-at c st j h
