@@ -32,14 +32,7 @@ fn most_other(v: Vote) -> u8
 }
 
 // The margin of data symbol j, whose own difference and zeros at its checks are given. No vote is taken where every estimate is 0.
-pub fn margin_at(
-    code: Params,
-    positions: &[u16],
-    j: usize,
-    own: u8,
-    others: u8,
-    s: &[u8],
-) -> i32
+pub fn margin_at(code: Params, positions: &[u16], j: usize, own: u8, others: u8, s: &[u8]) -> i32
     requires { ⌜ AtChecks (codeBy code (now positions)) (now s)
         × (j < dataCount (codeBy code (now positions)))
         × (others ≡ count 0 (symbolsAt (now s) (checksOf (codeBy code (now positions)) j))) ⌝ }

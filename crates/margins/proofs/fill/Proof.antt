@@ -1,7 +1,7 @@
 -- `fill`: at distance 0 every margin is J + 1, else the zeros are counted and each margin is written by them.
 use borrow.Author.Needs.{needs}
-use mathlib.Core.Path.{_≡_, refl, sym, _∙_, ap, subst}
-use mathlib.Core.List.{List, map}
+use mathlib.Core.Path.{refl, sym, _∙_, ap}
+use mathlib.Core.List.{map}
 use Prim.Native.Nat.{ℕ, _+_}
 use native.Mathlib.Omega.{arith}
 use lib.IntN.{pos, _-ℤ_}
