@@ -1,3 +1,2 @@
 -- Laws that the proofs of the C calls use.
-pub mod Positions
 pub mod Reads

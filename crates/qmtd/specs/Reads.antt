@@ -1,31 +1,22 @@
--- The calls with the positions that are read of a table, which do what they do with those of the table; and the bytes of the counts.
-use mathlib.Core.Path.{_≡_, refl, ap, sym, _∙_, subst}
+-- The calls with the positions that are read of a table, which do what they do with those of the table.
+use mathlib.Core.Path.{_≡_, refl, sym, _∙_, subst}
 use mathlib.Core.Logic.{_≢_}
 use mathlib.Core.Bool.{Bool, true, false, not, _&&_}
-use mathlib.Core.List.{List, [], _++_, append-nil}
-use Prim.Native.Nat.{ℕ}
+use mathlib.Core.List.{List, [], _++_}
+use Prim.Native.Nat.{ℕ, _*_}
 use native.Mathlib.Omega.{arith}
 use lib.Dec.{eqb}
-use lib.ListN.{length, drop-of-length-le}
-use lib.Seq.{sets, sets-eq}
-use Rattle.model.specs.Bytes.{wordOf, bytesOf, cDecodeOutcome}
-use Rattle.model.specs.Calls.{Test, firstThatApplies, within, sizeTests, tableTests, pageTests, tableAnswer, encodeAnswer, syndromeAnswer, decodeFits, decodeAnswer, outcome, encodeOutcome, syndromeOutcome}
+use lib.ListN.{length}
+use Rattle.model.specs.Bytes.{marginBytes, bytesOf, cDecodeOutcome}
+use Rattle.model.specs.Calls.{Test, firstThatApplies, within, sizeTests, tableTests, pageTests, tableAnswer, encodeAnswer, syndromeAnswer, decodeFits, decodeAnswer, outcome, encodeOutcome, syndromeOutcome, Decoded}
 use Rattle.model.specs.Code.{codeOf, codeWord, syndrome}
-use Rattle.model.specs.Decoder.{State, decodedState, decodedCounts}
-use Rattle.model.specs.Demand.{Encodes}
+use Rattle.model.specs.Decoder.{State, decodedState, decodedCounts, marginsOf}
+use Rattle.model.specs.Demand.{Encodes, DecodeFalls, DecodeRecovers}
 use Rattle.model.specs.Symbols.{choose}
 use Rattle.theory.specs.Answers.{within-below, within-above, page-taken, decode-taken}
-use Rattle.theory.specs.Outcomes.{left-as-lent}
-use Rattle.qmtd.specs.Positions.{kept, all-read, read-same}
-
--- ---- the counts
-
-pub counts-written : (d : List ℕ) (a b e f : ℕ) → length d ≡ 16
-    → sets (sets (sets (sets d 0 (wordOf a)) 4 (wordOf b)) 8 (wordOf e)) 12 (wordOf f) ≡ bytesOf (record { passes = a; changes = b; start = e; end = f })
-unfolding bytesOf
-counts-written d a b e f h =
-    let vs : List ℕ = wordOf a ++ wordOf b ++ wordOf e ++ wordOf f in
-    sets-eq vs d 0 (omega arith) ∙ ap (λ (l : List ℕ). vs ++ l) (drop-of-length-le d {i = 16} (omega arith)) ∙ append-nil vs
+use Rattle.theory.specs.Outcomes.{left-as-lent, outcome-number}
+use Rattle.theory.specs.Statements.{decode-falls}
+use Rattle.octets.specs.Positions.{kept, all-read, read-same}
 
 -- ---- too many positions are refused as none are
 
@@ -76,12 +67,15 @@ module _ (q k : ℕ) (xs ps : List ℕ) (e : xs ≡ kept ps) where
   syndrome-read page s =
       outcome-read (λ l. syndromeAnswer (codeOf q k l) page (length s)) (λ l. syndrome (codeOf q k l) page) s (λ l b. bad-J q k l _ b)
 
-  pub decode-read : (page ts : List ℕ) (lent : State) (counts : List ℕ) → cDecodeOutcome (codeOf q k xs) page ts lent counts ≡ cDecodeOutcome (codeOf q k ps) page ts lent counts
-  unfolding decodeAnswer pageTests tableTests sizeTests
-  decode-read page ts lent counts =
-      outcome-read (λ l. decodeAnswer (codeOf q k l) (eqb (length counts) 16 && decodeFits (codeOf q k l) page lent) page ts)
-      (λ l. record { state = decodedState (codeOf q k l) ts page; counts = bytesOf (decodedCounts (codeOf q k l) ts page) })
-      (record { state = lent; counts = counts }) (λ l b. bad-J q k l _ b)
+  pub decode-read : (page ts : List ℕ) (lent : State) (margins counts : List ℕ)
+      → cDecodeOutcome (codeOf q k xs) page ts lent margins counts ≡ cDecodeOutcome (codeOf q k ps) page ts lent margins counts
+  unfolding cDecodeOutcome decodeAnswer pageTests tableTests sizeTests
+  decode-read page ts lent margins counts =
+      outcome-read (λ l. decodeAnswer (codeOf q k l) ((eqb (length margins) (4 * k) && eqb (length counts) 16) && decodeFits (codeOf q k l) page lent) page ts)
+      (λ l.
+      let st = decodedState (codeOf q k l) ts page in
+      record { state = st; margins = marginBytes (marginsOf (codeOf q k l) st); counts = bytesOf (decodedCounts (codeOf q k l) ts page) })
+      (record { state = lent; margins = margins; counts = counts }) (λ l b. bad-J q k l _ b)
 
   -- a call that is done has read all positions
   pub encodes-read : (u sent : List ℕ) → Encodes (codeOf q k xs) u sent → Encodes (codeOf q k ps) u sent
@@ -91,3 +85,22 @@ module _ (q k : ℕ) (xs ps : List ℕ) (e : xs ≡ kept ps) where
 
   pub decoded-read : (others : Bool) (page ts : List ℕ) (lent : State) → decodeAnswer (codeOf q k xs) (others && decodeFits (codeOf q k xs) page lent) page ts ≡ 0 → xs ≡ ps
   decoded-read others page ts lent z = all-read xs ps e (decode-taken (codeOf q k xs) others page ts lent z .opens .usable .table .J-low)
+
+  -- decode, whole: what holds with the positions that are read holds with those of the table
+  pub decode-whole : (page ts : List ℕ) (lent : State) (margins counts : List ℕ) (r : ℕ) (x : Decoded (List ℕ) (List ℕ))
+      → record { number = r; left = x } ≡ cDecodeOutcome (codeOf q k xs) page ts lent margins counts
+      → (r ≡ 0 → DecodeRecovers (codeOf q k xs) ts page (x .state .result))
+      → (record { number = r; left = x } ≡ cDecodeOutcome (codeOf q k ps) page ts lent margins counts)
+      × (r ≡ 0 → DecodeFalls (codeOf q k ps) ts page (decodedCounts (codeOf q k ps) ts page))
+      × (r ≡ 0 → DecodeRecovers (codeOf q k ps) ts page (x .state .result))
+  unfolding cDecodeOutcome
+  decode-whole page ts lent margins counts r x o f =
+      let others : Bool = eqb (length margins) (4 * k) && eqb (length counts) 16 in
+      let zero : r ≡ 0 → decodeAnswer (codeOf q k xs) (others && decodeFits (codeOf q k xs) page lent) page ts ≡ 0 =
+      (λ z. sym (outcome-number _ _ _ r x o) ∙ z) in
+      let same : r ≡ 0 → xs ≡ ps = (λ z. decoded-read others page ts lent (zero z)) in (
+        o ∙ decode-read page ts lent margins counts,
+        (λ z. decode-falls (codeOf q k ps) others page ts lent
+            (subst (λ (l : List ℕ). decodeAnswer (codeOf q k l) (others && decodeFits (codeOf q k l) page lent) page ts ≡ 0) (same z) (zero z))),
+        (λ z. subst (λ (l : List ℕ). DecodeRecovers (codeOf q k l) ts page (x .state .result)) (same z) (f z)),
+      )

@@ -1,14 +1,14 @@
--- `qmtd::read_positions` meets its contract: of the bytes read so far, the complete positions are stored, and the last byte is kept.
+-- `octets::read_positions` meets its contract: of the bytes read so far, the complete positions are stored, and the last byte is kept.
 use mathlib.Core.Path.{_≡_, refl, ap, _∙_}
 use Prim.Native.Nat.{ℕ, _+_, _≤_, _<_, _-_, _/_}
 use native.Mathlib.Omega.{arith}
 use lib.ListN.{length, getD, set, take, length-set}
 use Rattle.model.specs.Symbols.{tabulate}
 use Rattle.model.specs.Bytes.{positionAt}
-use Rattle.qmtd.specs.Positions.{kept-odd, kept-long, kept-all, byte-turn}
+use Rattle.octets.specs.Positions.{kept-odd, kept-long, kept-all, byte-turn}
 use borrow.Author.Needs.{needs}
-use Rattle.qmtd.proofs.read_positions.Statement.{statement}
-use Rattle.qmtd.proofs.read_positions.Tie as tie
+use Rattle.octets.proofs.read_positions.Statement.{statement}
+use Rattle.octets.proofs.read_positions.Tie as tie
 
 abbrev Inv-loop : tie.InvT-loop
 Inv-loop table positions₀ len last₀ i₀ positions last i =

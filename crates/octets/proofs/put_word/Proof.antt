@@ -1,10 +1,10 @@
--- `qmtd::put_word` meets its contract.
+-- `octets::put_word` meets its contract.
 use native.Mathlib.Omega.{arith}
 use native.Mathlib.Numerals.{towards-suc}
 use lib.ListN.{length-set}
 use borrow.Author.Needs.{needs}
-use Rattle.qmtd.proofs.put_word.Statement.{statement}
-use Rattle.qmtd.proofs.put_word.Tie as tie
+use Rattle.octets.proofs.put_word.Statement.{statement}
+use Rattle.octets.proofs.put_word.Tie as tie
 
 cast-d : tie.Need-cast-d
 cast-d c = search needs

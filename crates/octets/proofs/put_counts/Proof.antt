@@ -1,13 +1,13 @@
--- `qmtd::put_counts` meets its contract: the four runs of stores are one.
+-- `octets::put_counts` meets its contract: the four runs of stores are one.
 use borrow.Author.Needs.{needs}
 use mathlib.Core.Path.{_∙_, ap}
 use mathlib.Core.List.{List}
 use Prim.Native.Nat.{ℕ}
 use lib.Seq.{sets}
 use Rattle.model.specs.Bytes.{wordOf}
-use Rattle.qmtd.specs.Reads.{counts-written}
-use Rattle.qmtd.proofs.put_counts.Statement.{statement}
-use Rattle.qmtd.proofs.put_counts.Tie as tie
+use Rattle.octets.specs.Words.{counts-written}
+use Rattle.octets.proofs.put_counts.Statement.{statement}
+use Rattle.octets.proofs.put_counts.Tie as tie
 
 put-word-requires : tie.Need-put-word-requires
 put-word-requires c κs = search needs
