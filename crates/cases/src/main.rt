@@ -81,7 +81,18 @@ fn show_decode(case: u32, page: &[u8], thresholds: &[u8]) {
     let mut result = [0u8; 13];
     let mut s = [0u8; 13];
     let mut d = [0u8; 13];
-    let got = decoder::decode(256, 13, &A, page, thresholds, &mut result, &mut s, &mut d);
+    let mut margins = [0i32; 13];
+    let got = decoder::decode(
+        256,
+        13,
+        &A,
+        page,
+        thresholds,
+        &mut result,
+        &mut s,
+        &mut d,
+        &mut margins,
+    );
     number_line(case, b"decode:", got.number);
     symbols_line(case, b"result:", &result);
     symbols_line(case, b"S:", &s);
@@ -127,7 +138,18 @@ fn decoded(q: u32, page: &[u8], thresholds: &[u8]) -> Decoded {
     let mut result = [0u8; 13];
     let mut s = [0u8; 13];
     let mut d = [0u8; 13];
-    decoder::decode(q, 13, &A, page, thresholds, &mut result, &mut s, &mut d)
+    let mut margins = [0i32; 13];
+    decoder::decode(
+        q,
+        13,
+        &A,
+        page,
+        thresholds,
+        &mut result,
+        &mut s,
+        &mut d,
+        &mut margins,
+    )
 }
 
 // The numbers of the table check, encode, syndrome and decode.
