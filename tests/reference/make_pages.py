@@ -1,7 +1,8 @@
-"""Makes the reference pages, crates/reference/data/pages.bin, and what the program `reference` must print of them.
+"""Makes the reference pages, crates/reference/data/pages.bin, what the program `reference` must print of them, and what
+examples/screen.c must print.
 
-    make_pages.py            write both files
-    make_pages.py --check    compare both, byte for byte
+    make_pages.py            write the three files
+    make_pages.py --check    compare them, byte for byte
 
 Every expected byte comes from reference.py, which first tries itself on the worked cases of document 01. README.md
 beside this file has the format.
@@ -12,10 +13,12 @@ import sys
 from pathlib import Path
 
 import reference as ref
+import screen
 from codes import SINGER, Random, greedy, positions_for, singer
 from records import CHECK_TABLE, DECODE, ENCODE, SYNDROME, Pages
 
-CRATE = Path(__file__).resolve().parent.parent.parent / "crates" / "reference"
+ROOT = Path(__file__).resolve().parent.parent.parent
+CRATE = ROOT / "crates" / "reference"
 
 # Alphabet sizes: small, prime, even, and on both sides of where the sum of two symbols leaves a byte.
 ALPHABETS = [3, 4, 5, 7, 10, 16, 17, 100, 127, 128, 129, 200, 251, 255, 256]
@@ -538,7 +541,8 @@ def make():
 
 def main(arguments):
     pages = make()
-    files = {CRATE / "data" / "pages.bin": pages.content(), CRATE / "stdout": pages.report()}
+    files = {CRATE / "data" / "pages.bin": pages.content(), CRATE / "stdout": pages.report(),
+             ROOT / "examples" / "screen.expected": screen.content()}
     if arguments == ["--check"]:
         for file, made in files.items():
             if file.read_bytes() != made:
