@@ -1,21 +1,26 @@
 -- Decoding a whole page: the opened page, the run of passes from it, and a page at distance 0.
 use mathlib.Core.Path.{_≡_, refl, ap, sym, _∙_}
+use mathlib.Core.Logic.{_≢_}
+use mathlib.Core.Bool.{Bool}
 use mathlib.Core.List.{List, [], _∷_, append-nil}
 use Prim.Native.Nat.{ℕ, zero, suc, _+_, _≤_, _<_}
 use native.Mathlib.Omega.{arith}
-use lib.ListN.{length}
+use lib.ListN.{length, take}
+use Rattle.model.specs.Calls.{Outcome, outcome, decodeAnswer, noCounts}
 use Rattle.model.specs.Code.{Code, dataCount, checksOf, dataOf, syndrome}
 use Rattle.model.specs.Decoder.{State, stateBy, Visit, after, changeCount, pass, passes, thresholdsRun, dataSymbols, opened, passesOf, run, distanceTo, Counts, decodedState, decodedCounts}
 use Rattle.model.specs.Symbols.{weight, tabulate}
 use Rattle.theory.specs.Answers.{Opens}
 use Rattle.theory.specs.Codes.{ByteCode, code-incidence}
 use Rattle.theory.specs.Counting.{eqb-yes, differ-no, zeros-weight}
-use Rattle.theory.specs.Decoding.{code-opened-sized, code-distance}
+use Rattle.theory.specs.Decoding.{code-opened-sized, code-sized, code-distance}
 use Rattle.theory.specs.Falling.{after-sized, idle-after}
 use Rattle.theory.specs.Runs.{range-pass, range-passes, symbols-range}
 use Rattle.theory.specs.Steps.{stateWeight}
+use Rattle.margins.specs.Margins.{Left}
 use Rattle.passes.specs.Runs.{ran, runOf}
 use Rattle.visits.specs.Progress.{Progress, Ready}
+use Rattle.zeros.specs.Counts.{zeroCounts}
 use Rattle.tally.specs.declared.Tally.{Tally}
 
 -- the counts as the tally has them, and back
@@ -28,6 +33,17 @@ countsOf t = record { passes = t .passes; changes = t .changes; start = t .start
 -- what decoding a page hands back
 abbrev pub decoded : Code → List ℕ → List ℕ → Progress
 decoded c ts page = record { state = decodedState c ts page; tally = tallyOf (decodedCounts c ts page) }
+
+-- what decoding leaves and counts, its margins apart: decode whose lent buffers fit or not
+pub record Ran : Type 0 where
+  pub state : State
+  pub counts : Counts
+
+unfoldable pub ranOutcome : Code → Bool → List ℕ → List ℕ → State → Outcome Ran
+ranOutcome c fits page thresholds lent =
+    outcome (decodeAnswer c fits page thresholds)
+    (record { state = decodedState c thresholds page; counts = decodedCounts c thresholds page })
+    (record { state = lent; counts = noCounts })
 
 -- an opened page before the first pass, at distance n
 abbrev pub startAt : Code → List ℕ → ℕ → Progress
@@ -148,4 +164,21 @@ module _ (c : Code) (page : List ℕ) (lent : State) (o : Opens c page lent) whe
         start = (ap (λ (y : Progress). y .tally .start) f ∙ g) i;
         end = (w ∙ ap stateWeight run-state ∙ decoded-distance ts) i;
       };
+    }
+
+-- ---- what the decode leaves for its margins
+
+pub left-by : (c : Code) (page ts : List ℕ) (lent : State) → Opens c page lent → (x : Progress) (zeros : List ℕ) → x ≡ decoded c ts page → dataCount c ≤ length zeros
+    → (x .tally .end ≢ 0 → take (dataCount c) zeros ≡ zeroCounts c (x .state .syndrome)) → Left c (x .state .syndrome) (x .state .difference) zeros (x .tally .end)
+unfolding decodedCounts decodedState stateWeight
+left-by c page ts lent o x zeros e room counted =
+    let z = code-sized c (o .usable) page (o .whole) (run c ts page) in
+    let st : State = decodedState c ts page in
+    record {
+      checks = record { table = o .usable .table; len = ap (λ (y : Progress). length (y .state .syndrome)) e ∙ z .len-syndrome };
+      len-difference = ap (λ (y : Progress). length (y .state .difference)) e ∙ z .len-difference;
+      weighed = ap (λ (y : Progress). y .tally .end) e ∙ sym (decoded-distance c page lent o ts)
+          ∙ ap (λ (y : Progress). weight (y .state .difference) + weight (y .state .syndrome)) (sym e);
+      room = room;
+      counted = counted;
     }

@@ -26,8 +26,9 @@ fn run_counted(
         × (length (now thresholds) ≤ 64)
         × (opened .changes ≡ 0)
         × (now zeros ≡ zeroCounts (codeBy code (now positions)) (now syndrome)) ⌝ }
-    ensures { λ t. ⌜ progress (now (result .exit)) (now (syndrome .exit)) (now (difference .exit)) t
+    ensures ran { λ t. ⌜ progress (now (result .exit)) (now (syndrome .exit)) (now (difference .exit)) t
         ≡ runOf (codeBy code (now (positions .entry))) (now (thresholds .entry)) (progress (now (result .entry)) (now (syndrome .entry)) (now (difference .entry)) opened) ⌝ }
+    ensures counted { λ t. ⌜ now (zeros .exit) ≡ zeroCounts (codeBy code (now (positions .entry))) (now (syndrome .exit)) ⌝ }
 {
     let n = thresholds.len();
     let mut tally = opened;
@@ -61,8 +62,9 @@ fn run_counted(
     tally.passed(passes as u32)
 }
 
-// The same, with the zeros at the checks of every data symbol counted first, into a buffer of k bytes.
-fn run_with(
+// The passes of a decode, from an opened page. The zeros at the checks of every data symbol are counted first, into a lent buffer of
+// one byte a data symbol, which afterwards has those of the syndrome that is left.
+pub fn run(
     code: Params,
     positions: &[u16],
     thresholds: &[u8],
@@ -76,8 +78,9 @@ fn run_with(
         × (length (now thresholds) ≤ 64)
         × (opened .changes ≡ 0)
         × (length (now zeros) ≡ dataCount (codeBy code (now positions))) ⌝ }
-    ensures { λ t. ⌜ progress (now (result .exit)) (now (syndrome .exit)) (now (difference .exit)) t
+    ensures ran { λ t. ⌜ progress (now (result .exit)) (now (syndrome .exit)) (now (difference .exit)) t
         ≡ runOf (codeBy code (now (positions .entry))) (now (thresholds .entry)) (progress (now (result .entry)) (now (syndrome .entry)) (now (difference .entry)) opened) ⌝ }
+    ensures counted { λ t. ⌜ now (zeros .exit) ≡ zeroCounts (codeBy code (now (positions .entry))) (now (syndrome .exit)) ⌝ }
 {
     zeros::count_zeros(code, positions, syndrome, zeros);
     run_counted(
@@ -88,49 +91,6 @@ fn run_with(
         syndrome,
         difference,
         zeros,
-        opened,
-    )
-}
-
-// The passes of a decode, from an opened page. A small code clears a small buffer.
-pub fn run(
-    code: Params,
-    positions: &[u16],
-    thresholds: &[u8],
-    result: &mut [u8],
-    syndrome: &mut [u8],
-    difference: &mut [u8],
-    opened: Tally,
-) -> Tally
-    requires { ⌜ Ready (codeBy code (now positions)) (stateBy (now result) (now syndrome) (now difference))
-        × (length (now thresholds) ≤ 64)
-        × (opened .changes ≡ 0) ⌝ }
-    ensures { λ t. ⌜ progress (now (result .exit)) (now (syndrome .exit)) (now (difference .exit)) t
-        ≡ runOf (codeBy code (now (positions .entry))) (now (thresholds .entry)) (progress (now (result .entry)) (now (syndrome .entry)) (now (difference .entry)) opened) ⌝ }
-{
-    let k = code.k;
-    if k <= 128 {
-        let mut few = [0u8; 128];
-        return run_with(
-            code,
-            positions,
-            thresholds,
-            result,
-            syndrome,
-            difference,
-            &mut few[..k],
-            opened,
-        );
-    }
-    let mut zeros = [0u8; 4096];
-    run_with(
-        code,
-        positions,
-        thresholds,
-        result,
-        syndrome,
-        difference,
-        &mut zeros[..k],
         opened,
     )
 }

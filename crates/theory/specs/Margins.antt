@@ -40,7 +40,7 @@ all-count v [] a = refl
 all-count v (x ∷ xs) a = omega (arith, same-yes v x (sym (a .0)), all-count v xs (a .1))
 
 -- zeros and the estimates of another value are no more than all
-zeros-others : (es : List ℕ) → count 0 es + otherCount es 0 es ≤ length es
+pub zeros-others : (es : List ℕ) → count 0 es + otherCount es 0 es ≤ length es
 zeros-others es = omega (arith, count-misses 0 es, other-least es 0 es (misses 0 es) (λ v n. count-other v 0 es n))
 
 -- ---- the range

@@ -1,24 +1,25 @@
 -- `decode_page`: the page is opened; at distance 0 its one pass is idle, else the passes run from the opened page are the decode.
 use borrow.Author.Needs.{needs}
-use mathlib.Core.Path.{refl, sym, _∙_, ap, subst}
+use mathlib.Core.Path.{_≡_, refl, sym, _∙_, ap, subst}
+use native.Mathlib.Omega.{arith}
 use Rattle.model.specs.Decoder.{State}
 use Rattle.params.specs.Codes.{codeBy}
 use Rattle.tally.specs.declared.Tally.{Tally}
-use Rattle.visits.specs.Progress.{Ready, both}
+use Rattle.visits.specs.Progress.{progress, Ready, both}
 use Rattle.passes.specs.Runs.{runOf}
-use Rattle.decoder.specs.Decodes.{opened-ready, clean-decoded, run-decoded, run-lengths}
+use Rattle.decoder.specs.Decodes.{startAt, opened-ready, clean-decoded, run-decoded, run-lengths}
 use Rattle.decoder.proofs.decode_page.Statement.{statement}
 use Rattle.decoder.proofs.decode_page.Tie as tie
 
 -- the places that later ones look back to: the start, the opening, the run
 abbrev start : tie.After-open-page → tie.Start
-start c = c .before .before .before .before .before .before .before .before .before .before
+start c = c .before .before .before .before .before .before .before .before .before .before .before
 
 abbrev opening : tie.Else1 → tie.After-open-page
 opening c = c .before .before .before .before .before .before .before
 
 abbrev ran : tie.After-state-weight-arg2 → tie.After-run
-ran c = c .before .before .before .before .before .before .before .before
+ran c = c .before .before .before .before .before .before .before .before .before .before
 
 open-page-requires : tie.Need-open-page-requires
 open-page-requires c κs = search needs
@@ -44,33 +45,47 @@ returns c =
     let o = clean .before .before .before .before .before .before .before in
     let b = start o in
     let a = b .args in
-    rw (c .passed .ensures, c .before .opened .ensures)
-    (both (o .open-page .ensures .0) refl
-    ∙ clean-decoded (codeBy (a .code) (a .positions .now)) (a .page .now) _ (b .pre .opens) (sym (o .open-page .ensures .1) ∙ clean .if1 .taken) (a .thresholds .now) (b .pre .some))
+    rw (c .passed .ensures, c .before .opened .ensures) (
+      both (o .open-page .ensures .0) refl
+          ∙ clean-decoded (codeBy (a .code) (a .positions .now)) (a .page .now) _ (b .pre .0 .opens) (sym (o .open-page .ensures .1) ∙ clean .if1 .taken) (a .thresholds .now) (b .pre .0 .some),
+      λ n. absurd (n refl),
+    )
 
 opened-requires-2 : tie.Need-opened-requires-2
 opened-requires-2 c κs = search needs
 
 run-requires : tie.Need-run-requires
 run-requires c κs =
-    let o = opening (c .before .before .before .before) in
+    let t = c .before .before .before .before in
+    let o = opening (t .before) in
     let b = start o in
     let a = b .args in
     let code = codeBy (a .code) (a .positions .now) in (
-      subst (λ (st : State). Ready code st) (sym (o .open-page .ensures .0)) (opened-ready code (a .page .now) _ (b .pre .opens)),
-      b .pre .few,
-      ap (λ (t : Tally). t .changes) (c .opened2 .ensures),
+      subst (λ (st : State). Ready code st) (sym (o .open-page .ensures .0)) (opened-ready code (a .page .now) _ (b .pre .0 .opens)),
+      b .pre .0 .few,
+      ap (λ (t : Tally). t .changes) (t .opened2 .ensures),
+      b .pre .1,
     )
+
+-- what the passes left is the run from the opened page
+from-opened : (r : tie.After-run)
+    → let o = opening (r .before .before .before .before .before .before) in
+    let a = start o .args in
+    let code = codeBy (a .code) (a .positions .now) in
+    runOf code (a .thresholds .now) (progress (o .open-page .last .1 .1 .1 .0) (o .open-page .last .1 .1 .1 .1 .0) (o .open-page .last .1 .1 .1 .1 .1 .0) (r .before .before .before .before .before .opened2 .result))
+    ≡ runOf code (a .thresholds .now) (startAt code (a .page .now) (o .open-page .result))
+from-opened r =
+    let t = r .before .before .before .before .before in
+    let o = opening (t .before) in
+    ap (runOf _ _) (both (o .open-page .ensures .0) (t .opened2 .ensures))
 
 state-weight-requires : tie.Need-state-weight-requires
 state-weight-requires c κs =
     let r = ran c in
-    let o = opening (r .before .before .before .before .before) in
+    let o = opening (r .before .before .before .before .before .before) in
     let b = start o in
     let a = b .args in
-    let code = codeBy (a .code) (a .positions .now) in
-    run-lengths code (a .page .now) _ (b .pre .opens) (a .thresholds .now) _ _
-    (r .run .ensures ∙ ap (runOf code (a .thresholds .now)) (both (o .open-page .ensures .0) (r .before .opened2 .ensures)))
+    run-lengths (codeBy (a .code) (a .positions .now)) (a .page .now) _ (b .pre .0 .opens) (a .thresholds .now) _ _ (r .run .ensures .0 ∙ from-opened r)
 
 ended-requires : tie.Need-ended-requires
 ended-requires c κs = search needs
@@ -79,23 +94,29 @@ same-length-4 : tie.Need-same-length-4
 same-length-4 c = search needs
 
 same-length-5 : tie.Need-same-length-5
-same-length-5 c = search needs
+same-length-5 c =
+    let back = c .before .before .before .before .before .before .before .before .before .before .before in
+    let opened = back .before .before .before .before .before .before .before .before .before .before .before .before .before in
+    omega (arith, back .result2 .given, opened .result .given)
 
 same-length-6 : tie.Need-same-length-6
 same-length-6 c = search needs
+
+same-length-7 : tie.Need-same-length-7
+same-length-7 c = search needs
 
 returns-2 : tie.Need-returns-2
 returns-2 c =
     let w = c .before in
     let r = ran (w .before) in
-    let o = opening (r .before .before .before .before .before) in
+    let o = opening (r .before .before .before .before .before .before) in
     let b = start o in
     let a = b .args in
-    let code = codeBy (a .code) (a .positions .now) in
-    rw (c .ended .ensures)
-    (run-decoded code (a .page .now) _ (b .pre .opens) (a .thresholds .now) _ _
-    (r .run .ensures ∙ ap (runOf code (a .thresholds .now)) (both (o .open-page .ensures .0) (r .before .opened2 .ensures)))
-    _ (o .open-page .ensures .1) (w .state-weight .ensures))
+    let code = codeBy (a .code) (a .positions .now) in (
+      rw (c .ended .ensures)
+          (run-decoded code (a .page .now) _ (b .pre .0 .opens) (a .thresholds .now) _ _ (r .run .ensures .0 ∙ from-opened r) _ (o .open-page .ensures .1) (w .state-weight .ensures)),
+      λ n. r .run .ensures .1,
+    )
 
 pub decode-page-spec : {M : Type 1} → statement M
 decode-page-spec =
@@ -115,4 +136,5 @@ decode-page-spec =
     same-length-4
     same-length-5
     same-length-6
+    same-length-7
     returns-2)

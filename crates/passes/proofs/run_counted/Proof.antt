@@ -116,6 +116,7 @@ record Done (c : Code) (thresholds zs₀ zs : List ℕ) (p x : Progress) (n : �
   len-syndrome : length (x .state .syndrome) ≡ length (p .state .syndrome)
   len-difference : length (x .state .difference) ≡ length (p .state .difference)
   len-zeros : length zs ≡ length zs₀
+  counts : zs ≡ zeroCounts c (x .state .syndrome)
   ran : passesFrom c n [] x ≡ passesFrom c 0 thresholds p
 
 left : {c : Code} {thresholds zs₀ zs : List ℕ} {p x : Progress} {n : ℕ} → n ≤ 64 → Ready c (p .state) → Ready c (x .state)
@@ -126,6 +127,7 @@ left f r y d e g = record {
   len-syndrome = y .sized .len-syndrome ∙ sym (r .sized .len-syndrome);
   len-difference = y .sized .len-difference ∙ sym (r .sized .len-difference);
   len-zeros = ap length e ∙ length-zeroCounts _ _ ∙ sym (ap length d ∙ length-zeroCounts _ _);
+  counts = e;
   ran = g;
 }
 
@@ -169,7 +171,7 @@ same-length-4 c = done (c .before .before) .len-zeros
 
 returns : tie.Need-returns Inv-loop2 μ-loop2 Inv-loop μ-loop
 unfolding runOf passesFrom
-returns c = rw (c .passed .ensures) (done (c .before .before) .ran ∙ passes-run _ 0 _ _)
+returns c = let d = done (c .before .before) in (rw (c .passed .ensures) (d .ran ∙ passes-run _ 0 _ _), d .counts)
 
 pub run-counted-spec : {M : Type 1} → statement M
 run-counted-spec =

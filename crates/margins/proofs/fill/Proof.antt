@@ -1,0 +1,76 @@
+-- `fill`: at distance 0 every margin is J + 1, else the zeros are counted and each margin is written by them.
+use borrow.Author.Needs.{needs}
+use mathlib.Core.Path.{refl, sym, _∙_, ap}
+use mathlib.Core.List.{map}
+use Prim.Native.Nat.{ℕ, _+_}
+use native.Mathlib.Omega.{arith}
+use lib.IntN.{pos, _-ℤ_}
+use lib.ListN.{length}
+use lib.Seq.{length-take-le}
+use Rattle.model.specs.Decoder.{stateBy}
+use Rattle.model.specs.Symbols.{tabulate}
+use Rattle.params.specs.Codes.{codeBy}
+use Rattle.theory.specs.Steps.{stateWeight}
+use Rattle.margins.specs.Margins.{margins-firm}
+use Rattle.margins.proofs.fill.Statement.{statement}
+use Rattle.margins.proofs.fill.Tie as tie
+
+-- the start, from the two ways
+abbrev firm : tie.Then1 → tie.Start
+firm c = c .before .before .before .before .before
+
+abbrev other : tie.Else1 → tie.Start
+other c = c .before .before .before .before .before
+
+add-write-firm : tie.Need-add-write-firm
+add-write-firm c = let b = firm c in omega (arith, b .pre .0 .checks .table .J-high)
+
+cast-write-firm : tie.Need-cast-write-firm
+cast-write-firm c = let b = firm c in omega (arith, b .pre .0 .checks .table .J-high)
+
+write-firm-requires : tie.Need-write-firm-requires
+write-firm-requires c κs = let b = firm (c .before) in omega (arith, b .pre .0 .checks .table .J-high)
+
+slice-aggregate-write-margins : tie.Need-slice-aggregate-write-margins
+slice-aggregate-write-margins c = let b = other (c .before) in sym (length-take-le (b .args .code .k) (b .args .zeros .now) (b .pre .0 .room))
+
+write-margins-requires : tie.Need-write-margins-requires
+write-margins-requires c κs =
+    let e = c .before .before in
+    let b = other e in
+    let l = b .pre .0 in
+    (l .checks, l .counted (e .if1 .left), l .len-difference, b .pre .1)
+
+same-length : tie.Need-same-length
+same-length c = search needs
+
+returns : tie.Need-returns
+unfolding stateWeight
+returns c r =
+    let w = c .before in
+    let t = w .before .before in
+    let b = firm t in
+    let a = b .args in
+    let code = codeBy (a .code) (a .positions .now) in
+    w .write-firm .ensures ∙ ap (λ (n : ℕ). map (λ j. pos (length (a .positions .now) + 1) -ℤ pos 0) (tabulate n (λ j. j))) (b .pre .1)
+    ∙ margins-firm code (stateBy r (a .s .now) (a .d .now)) _ refl (sym (b .pre .0 .weighed) ∙ t .if1 .taken)
+
+same-length-2 : tie.Need-same-length-2
+same-length-2 c = search needs
+
+returns-2 : tie.Need-returns-2
+returns-2 c r = c .before .write-margins .ensures r
+
+pub fill-spec : {M : Type 1} → statement M
+fill-spec =
+    tie.close
+    (tie.spec
+    add-write-firm
+    cast-write-firm
+    write-firm-requires
+    slice-aggregate-write-margins
+    write-margins-requires
+    same-length
+    returns
+    same-length-2
+    returns-2)

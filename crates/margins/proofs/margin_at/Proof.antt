@@ -1,0 +1,99 @@
+-- `margin_at`: where the zeros are as many as the estimates the other count is 0, else the vote tells it.
+use borrow.Author.Needs.{needs}
+use mathlib.Core.Path.{_≡_, _∙_, ap}
+use Prim.Native.Nat.{ℕ, _+_, _≤_}
+use native.Mathlib.Omega.{arith}
+use lib.Dec.{eqb}
+use lib.IntN.{pos, _-ℤ_}
+use lib.ListN.{length}
+use mathlib.Core.List.{List}
+use Rattle.model.specs.Symbols.{choose, count}
+use Rattle.model.specs.Vote.{leader, leadCount, nextCount}
+use Rattle.params.specs.Codes.{codeBy}
+use Rattle.checks.specs.Checks.{estimatesAt}
+use Rattle.theory.specs.Margins.{count-le}
+use Rattle.vote.specs.declared.Vote.{Vote}
+use Rattle.visits.specs.Estimates.{estimates-length, zeros-counted}
+use Rattle.margins.specs.Margins.{margin-firm, margin-voted, most-few, read-back}
+use Rattle.margins.proofs.margin_at.Statement.{statement}
+use Rattle.margins.proofs.margin_at.Tie as tie
+
+-- the estimates, and their zeros, of which there are at most 33
+record Counted (es : List ℕ) (zeros J : ℕ) : Type 0 where
+  zero-count : zeros ≡ count 0 es
+  len : length es ≡ J + 1
+  few : length es ≤ 33
+
+-- the estimates, from where their zeros are counted
+abbrev estimates : tie.After-equal → List ℕ
+estimates c = let a = c .before .before .before .args in estimatesAt (codeBy (a .code) (a .positions .now)) (a .j) (a .own) (a .s .now)
+
+counted : (c : tie.After-equal) → Counted (estimates c) (c .before .before .before .args .others + c .equal .result) (length (c .before .before .before .args .positions .now))
+counted c =
+    let b = c .before .before .before in
+    let a = b .args in
+    let len = estimates-length (codeBy (a .code) (a .positions .now)) (a .j) (a .own) (a .s .now) in
+    record { zero-count = zeros-counted (a .own) _ _ _ (b .pre .2) (c .equal .ensures .0); len = len; few = omega (arith, len, b .pre .0 .table .J-high) }
+
+equal-requires : tie.Need-equal-requires
+equal-requires c κs = search needs
+
+add-zeros : tie.Need-add-zeros
+add-zeros c = let k = counted c in omega (arith, k .zero-count, k .few, count-le 0 (estimates c))
+
+cast-if1 : tie.Need-cast-if1
+cast-if1 c = search needs
+
+add-if1 : tie.Need-add-if1
+add-if1 c = search needs
+
+margin-of-requires : tie.Need-margin-of-requires
+margin-of-requires c κs = let k = counted (c .before) in (omega (arith, k .len, k .few, c .if1 .taken), omega arith)
+
+returns : tie.Need-returns
+returns c =
+    let q = c .before .before in
+    let k = counted q in
+    read-back _ (c .margin-of .ok) ∙ c .margin-of .ensures ∙ ap (λ (n : ℕ). pos n -ℤ pos 0) (k .zero-count)
+    ∙ margin-firm (estimates q) (omega (arith, k .zero-count, k .len, c .before .if1 .taken))
+
+vote-at-requires : tie.Need-vote-at-requires
+vote-at-requires c κs = let p = c .before .before .before .before .pre in (p .0, p .1)
+
+most-other-requires : tie.Need-most-other-requires
+most-other-requires c κs = search needs
+
+-- the largest other count, off the vote
+other : (c : tie.After-most-other)
+    → let es = estimates (c .before .before .before) in
+    c .most-other .result ≡ choose (eqb (leader es) 0) (nextCount es) (leadCount es)
+other c = c .most-other .ensures ∙ ap (λ (v : Vote). choose (eqb (v .leader) 0) (v .next) (v .lead)) (c .before .vote-at .ensures)
+
+margin-of-requires-2 : tie.Need-margin-of-requires-2
+margin-of-requires-2 c κs =
+    let q = c .before .before .before in
+    let k = counted q in
+    (omega (arith, k .zero-count, k .few, count-le 0 (estimates q)), omega (arith, other c, most-few (estimates q), k .few))
+
+returns-2 : tie.Need-returns-2
+returns-2 c =
+    let o = c .before in
+    let q = o .before .before .before in
+    let k = counted q in
+    read-back _ (c .margin-of2 .ok) ∙ c .margin-of2 .ensures ∙ ap (λ (n : ℕ). pos n -ℤ pos (o .most-other .result)) (k .zero-count)
+    ∙ ap (λ (n : ℕ). pos (count 0 (estimates q)) -ℤ pos n) (other o) ∙ margin-voted (estimates q)
+
+pub margin-at-spec : {M : Type 1} → statement M
+margin-at-spec =
+    tie.close
+    (tie.spec
+    equal-requires
+    add-zeros
+    cast-if1
+    add-if1
+    margin-of-requires
+    returns
+    vote-at-requires
+    most-other-requires
+    margin-of-requires-2
+    returns-2)

@@ -1,0 +1,2 @@
+-- The laws of the functions that write margins.
+pub mod Margins

@@ -1,0 +1,125 @@
+-- A symbol's margin by its zeros and the vote, margins written from the front, and the margins of a state in which S and D are 0.
+use mathlib.Core.Path.{_≡_, refl, ap, sym, _∙_}
+use mathlib.Core.Logic.{_≢_}
+use mathlib.Core.List.{List, [], _∷_, _++_, map}
+use Prim.Native.Nat.{ℕ, zero, suc, _+_, _≤_, _<_}
+use native.Mathlib.Decide.{ℕ-discrete, decLt}
+use native.Mathlib.Numerals.{add-one}
+use native.Mathlib.Omega.{arith}
+use lib.Dec.{eqb}
+use lib.IntN.{ℤ, pos, _-ℤ_}
+use lib.ListN.{length, getD, set, take, length-set}
+use lib.Seq.{take-suc-set, take-all}
+use lib.Signed.{mag}
+use mir.Syntax.{w32}
+use mir.Val.{toZ, ofZ, SFits}
+use mir.ValLaws.{toZ-ofZ}
+use borrow.Author.Tests.{lt-ltb, le-ltb}
+use Rattle.model.specs.Code.{Code, dataCount, checksEach, checksOf}
+use Rattle.model.specs.Decoder.{State, estimates, dataSymbols, marginsOf}
+use Rattle.model.specs.Symbols.{choose, count, weight, tabulate, symbolsAt}
+use Rattle.model.specs.Vote.{leader, leadCount, otherCount, nextCount, margin}
+use Rattle.theory.specs.Circulant.{length-checksBy}
+use Rattle.theory.specs.Counting.{All, differ-yes, length-symbolsAt}
+use Rattle.theory.specs.Integers.{whole}
+use Rattle.theory.specs.Margins.{zeros-others, margin-top, other-zero, margins-snoc}
+use Rattle.theory.specs.Steps.{stateWeight}
+use Rattle.checks.specs.Checks.{AtChecks}
+use Rattle.zeros.specs.Counts.{zeroCounts}
+
+-- where every estimate is 0
+pub margin-firm : (es : List ℕ) → count 0 es ≡ length es → pos (count 0 es) -ℤ pos 0 ≡ margin es
+unfolding margin
+margin-firm es e = ap (λ (n : ℕ). pos (count 0 es) -ℤ pos n) (let z : 0 ≡ otherCount es 0 es = omega (arith, zeros-others es) in z)
+
+-- else by the vote
+pub margin-voted : (es : List ℕ) → pos (count 0 es) -ℤ pos (choose (eqb (leader es) 0) (nextCount es) (leadCount es)) ≡ margin es
+unfolding margin
+margin-voted es = ap (λ (n : ℕ). pos (count 0 es) -ℤ pos n) (sym (other-zero es))
+
+-- both terms are at most the number of estimates
+pub most-few : (es : List ℕ) → choose (eqb (leader es) 0) (nextCount es) (leadCount es) ≤ length es
+most-few es = omega (arith, other-zero es, zeros-others es)
+
+-- ---- margins written from the front
+
+-- the first j are written: f tells each
+pub record Front (f : ℕ → ℤ) (ms₀ ms : List ℤ) (j : ℕ) : Type 0 where
+  pub inside : j ≤ length ms
+  pub len : length ms ≡ length ms₀
+  pub made : take j ms ≡ map f (tabulate j (λ i. i))
+
+pub front-none : (f : ℕ → ℤ) (ms : List ℤ) → Front f ms ms 0
+unfolding tabulate
+front-none f ms = record { inside = omega arith; len = refl; made = refl }
+
+pub front-turn : (f : ℕ → ℤ) (ms₀ ms : List ℤ) (j : ℕ) (v : ℤ) → Front f ms₀ ms j → j < length ms → v ≡ f j → Front f ms₀ (set ms j v) (j + 1)
+front-turn f ms₀ ms j v w h e = record {
+  inside = rw (length-set ms j v) (omega arith);
+  len = length-set ms j v ∙ w .len;
+  made = ap (λ (n : ℕ). take n (set ms j v)) (add-one j) ∙ take-suc-set ms j v h ∙ ap (λ (l : List ℤ). l ++ (v ∷ [])) (w .made)
+      ∙ ap (λ (m : ℤ). map f (tabulate j (λ i. i)) ++ (m ∷ [])) e ∙ sym (margins-snoc f j);
+}
+
+pub front-all : (f : ℕ → ℤ) (ms₀ ms : List ℤ) (j : ℕ) → Front f ms₀ ms j → length ms ≤ j → ms ≡ map f (tabulate (length ms₀) (λ i. i))
+front-all f ms₀ ms j w h =
+    let e : j ≡ length ms₀ = omega (arith, w .inside, w .len) in
+    sym (take-all j ms h) ∙ w .made ∙ ap (λ (n : ℕ). map f (tabulate n (λ i. i))) e
+
+-- ---- a state in which S and D are 0
+
+zero-weight : (s : List ℕ) → weight s ≡ 0 → (i : ℕ) → getD s i 0 ≡ 0
+unfolding weight
+zero-weight [] e i = refl
+zero-weight (x ∷ xs) e zero = elim (ℕ-discrete x 0) as (λ o. x ≡ 0) [ yes p ↦ p | no n ↦ absurd (omega (arith, differ-yes x 0 n)) ]
+zero-weight (x ∷ xs) e (suc i) = zero-weight xs (omega arith) i
+
+zeros-at : (s : List ℕ) → ((i : ℕ) → getD s i 0 ≡ 0) → (is : List ℕ) → All (λ e. e ≡ 0) (symbolsAt s is)
+unfolding symbolsAt
+zeros-at s z [] = tt
+zeros-at s z (i ∷ is) = (z i, zeros-at s z is)
+
+map-same : (f g : ℕ → ℤ) (xs : List ℕ) → All (λ x. f x ≡ g x) xs → map f xs ≡ map g xs
+map-same f g [] a = refl
+map-same f g (x ∷ xs) a = λ i. a .0 i ∷ map-same f g xs (a .1) i
+
+-- every margin is the number of estimates, J + 1
+pub margins-firm : (c : Code) (st : State) (n : ℕ) → n ≡ checksEach c + 1 → stateWeight st ≡ 0 → map (λ j. pos n -ℤ pos 0) (tabulate (dataCount c) (λ j. j)) ≡ marginsOf c st
+unfolding marginsOf stateWeight estimates
+margins-firm c st n m e = map-same (λ j. pos n -ℤ pos 0) (λ j. margin (estimates (checksOf c j) j st)) (dataSymbols c) (every (dataSymbols c))
+  where
+    firm : (j : ℕ) → pos n -ℤ pos 0 ≡ margin (getD (st .difference) j 0 ∷ symbolsAt (st .syndrome) (checksOf c j))
+    firm j =
+        let es : List ℕ = getD (st .difference) j 0 ∷ symbolsAt (st .syndrome) (checksOf c j) in
+        let l : n ≡ length es = omega (arith, length-symbolsAt (st .syndrome) (checksOf c j), length-checksBy (c .k) (c .positions) j) in
+        whole n ∙ ap pos l
+        ∙ sym (margin-top es .1 (zero-weight (st .difference) (omega arith) j, zeros-at (st .syndrome) (zero-weight (st .syndrome) (omega arith)) (checksOf c j)))
+
+    every : (xs : List ℕ) → All (λ j. pos n -ℤ pos 0 ≡ margin (getD (st .difference) j 0 ∷ symbolsAt (st .syndrome) (checksOf c j))) xs
+    every [] = tt
+    every (x ∷ xs) = (firm x, every xs)
+
+-- what a decode that is done leaves for its margins: S and D, their weight, and, where that is not 0, the zeros at the checks of each data symbol
+pub record Left (c : Code) (s d zeros : List ℕ) (n : ℕ) : Type 0 where
+  pub checks : AtChecks c s
+  pub len-difference : length d ≡ dataCount c
+  pub weighed : n ≡ weight d + weight s
+  pub room : dataCount c ≤ length zeros
+  pub counted : n ≢ 0 → take (dataCount c) zeros ≡ zeroCounts c s
+
+-- ---- a margin as a 32-bit number
+
+mag-sub : (a b : ℕ) → a ≤ 33 → b ≤ 33 → mag (pos a -ℤ pos b) ≤ 33
+mag-sub a zero h g = omega arith
+mag-sub a (suc b) h g = by (decLt a (suc b))
+  where
+    by : Dec (a < suc b) → mag (pos a -ℤ pos (suc b)) ≤ 33
+    by (yes l) = simp (lt-ltb a (suc b) l) (omega arith)
+    by (no l) = simp (le-ltb a (suc b) (omega arith)) (omega arith)
+
+pub small-fits : (a b : ℕ) → a ≤ 33 → b ≤ 33 → SFits w32 (pos a -ℤ pos b)
+small-fits a b h g = record { sfits = omega (arith, mag-sub a b h g) }
+
+-- a signed number that was stored is read back
+pub read-back : (z : ℤ) → mag z < 2147483648 → toZ w32 (ofZ w32 z) ≡ z
+read-back z h = toZ-ofZ w32 z (record { sfits = h })

@@ -1,0 +1,102 @@
+// The margins of data symbols, which tell how firmly each stands: zeros among its estimates less the largest count of any one other value.
+use params::Params;
+use vote::Vote;
+ghost use mathlib.Core.Path.{_≡_};
+ghost use mathlib.Core.List.{List, map};
+ghost use Prim.Native.Nat.{ℕ, _+_, _<_, _≤_};
+ghost use lib.Dec.{eqb};
+ghost use lib.IntN.{pos, _-ℤ_};
+ghost use lib.ListN.{length};
+ghost use Rattle.model.specs.Code.{dataCount, checksOf};
+ghost use Rattle.model.specs.Decoder.{stateBy, marginsOf};
+ghost use Rattle.model.specs.Symbols.{choose, count, tabulate, symbolsAt};
+ghost use Rattle.model.specs.Vote.{margin};
+ghost use Rattle.params.specs.Codes.{codeBy};
+ghost use Rattle.checks.specs.Checks.{AtChecks, estimatesAt};
+ghost use Rattle.zeros.specs.Counts.{zeroCounts};
+ghost use Rattle.margins.specs.Margins.{Left};
+
+// The margin by its two terms, each at most 33: exact at both ends.
+fn margin_of(zeros: u8, most: u8) -> i32
+    requires { ⌜ (zeros ≤ 33) × (most ≤ 33) ⌝ }
+    ensures { λ r. ⌜ r ≡ pos zeros -ℤ pos most ⌝ }
+{
+    (zeros as i32) - (most as i32)
+}
+
+// The largest count of a value other than 0, read off the vote.
+fn most_other(v: Vote) -> u8
+    ensures { λ r. ⌜ r ≡ choose (eqb (v .leader) 0) (v .next) (v .lead) ⌝ }
+{
+    if v.leader == 0 { v.next } else { v.lead }
+}
+
+// The margin of data symbol j, whose own difference and zeros at its checks are given. No vote is taken where every estimate is 0.
+pub fn margin_at(code: Params, positions: &[u16], j: usize, own: u8, others: u8, s: &[u8]) -> i32
+    requires { ⌜ AtChecks (codeBy code (now positions)) (now s)
+        × (j < dataCount (codeBy code (now positions)))
+        × (others ≡ count 0 (symbolsAt (now s) (checksOf (codeBy code (now positions)) j))) ⌝ }
+    ensures { λ r. ⌜ r ≡ margin (estimatesAt (codeBy code (now (positions .entry))) j own (now (s .entry))) ⌝ }
+{
+    let zeros = others + symbols::equal(0, own);
+    if (zeros as usize) == positions.len() + 1 {
+        return margin_of(zeros, 0);
+    }
+    let v = visits::vote_at(code, positions, j, own, s);
+    margin_of(zeros, most_other(v))
+}
+
+// The margin of every data symbol, from S and D and the zeros at the checks of each.
+pub fn write_margins(
+    code: Params,
+    positions: &[u16],
+    zeros: &[u8],
+    s: &[u8],
+    d: &[u8],
+    margins: &mut [i32],
+)
+    requires { ⌜ AtChecks (codeBy code (now positions)) (now s)
+        × (now zeros ≡ zeroCounts (codeBy code (now positions)) (now s))
+        × (length (now d) ≡ dataCount (codeBy code (now positions)))
+        × (length (now margins) ≡ dataCount (codeBy code (now positions))) ⌝ }
+    ensures { λ _. ⌜ ((r : List ℕ) → now (margins .exit) ≡ marginsOf (codeBy code (now (positions .entry))) (stateBy r (now (s .entry)) (now (d .entry)))) ⌝ }
+{
+    let mut j = 0;
+    while j < margins.len() {
+        margins[j] = margin_at(code, positions, j, d[j], zeros[j], s);
+        j += 1;
+    }
+}
+
+// The margin of every data symbol where S and D are 0: all its n estimates are.
+pub fn write_firm(n: u8, margins: &mut [i32])
+    requires { ⌜ n ≤ 33 ⌝ }
+    ensures { λ _. ⌜ now (margins .exit) ≡ map (λ j. pos n -ℤ pos 0) (tabulate (length (now (margins .entry))) (λ j. j)) ⌝ }
+{
+    let mut j = 0;
+    while j < margins.len() {
+        margins[j] = margin_of(n, 0);
+        j += 1;
+    }
+}
+
+// The margins that a decode hands back, from what it leaves: `end` is the distance at its end.
+pub fn fill(
+    code: Params,
+    positions: &[u16],
+    end: u32,
+    zeros: &[u8],
+    s: &[u8],
+    d: &[u8],
+    margins: &mut [i32],
+)
+    requires { ⌜ Left (codeBy code (now positions)) (now s) (now d) (now zeros) end × (length (now margins) ≡ dataCount (codeBy code (now positions))) ⌝ }
+    ensures { λ _. ⌜ ((r : List ℕ) → now (margins .exit) ≡ marginsOf (codeBy code (now (positions .entry))) (stateBy r (now (s .entry)) (now (d .entry)))) ⌝ }
+{
+    if end == 0 {
+        write_firm((positions.len() + 1) as u8, margins);
+    } else {
+        let k = code.k;
+        write_margins(code, positions, &zeros[..k], s, d, margins);
+    }
+}
