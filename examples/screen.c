@@ -19,7 +19,7 @@ static const uint8_t thresholds[] = {1, 0, 0, 0, 0, 0, 0, 0};
 static uint8_t sent[K], page[QMTD_PAGE_LEN(K)];
 static uint8_t result[K], syndrome[K], difference[K], margins[QMTD_MARGINS_LEN(K)], counts[QMTD_COUNTS_LEN];
 
-/* How a symbol stands: firm where its margin is above J/2, weak where another value has as many votes as 0 or more. */
+/* How a symbol stands: firm where its margin is above J/2, weak where another value has at least as many votes as 0. */
 enum standing { FIRM, DOUBTFUL, WEAK, STANDINGS };
 
 static const struct {

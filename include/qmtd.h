@@ -144,7 +144,7 @@ uint32_t qmtd_syndrome(uint32_t q, uint32_t k, const uint8_t *table, uint64_t ta
  *               estimates, from the syndrome and the difference handed back, minus the largest count of any one other
  *               value, 0 if there is none: how firmly the symbol stands in the result. It is from -(J + 1) to J + 1.
  *                 J + 1      every estimate is 0: nothing speaks against the symbol
- *                 0 or less  another value has as many votes as 0 or more
+ *                 0 or less  another value has at least as many votes as 0
  *                 -(J + 1)   every estimate is one same other value
  *               A visit with threshold T would change nothing at j where the margin is -T or more. A margin, like
  *               QMTD_OK, does not say that the symbol is the one sent.
