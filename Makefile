@@ -4,12 +4,14 @@
 #   make lib TARGET=..          build/TARGET/libqmtd.a for another processor, one of targets/list; TARGET_FLAGS=.. adds
 #                               flags for clang, as -Os or -mfloat-abi=hard
 #   make demo                   prove crate by crate, build, and run the charger example
+#   make screen                 the bench screen example: a decoded page coloured by its margins
 #   make board                  the charger example on an emulated Cortex-M4 board
 #   make test-c                 the C tests over the archive for x86-64
 #   make test-targets           the archives for the other processors: all built, four run under emulation
 #   make install PREFIX=..      header, archive and pkg-config file; TARGET=.. as above
 #   make bench                  the library against C: times, and instructions a data byte; TARGET=x86-64-v3 for AVX2
-#   make pages, check-pages     make the reference pages anew; compare them with the committed ones
+#   make pages, check-pages     make the reference pages, and what the screen must show, anew; compare them with the
+#                               committed ones
 #   make clean                  remove build/
 
 PREFIX = /usr/local
@@ -31,7 +33,7 @@ endif
 
 .NOTPARALLEL:
 .DELETE_ON_ERROR:
-.PHONY: lib demo prove board test-c test-targets install bench pages check-pages clean
+.PHONY: lib demo screen prove board test-c test-targets install bench pages check-pages clean
 
 lib: $(ARCHIVE)
 
@@ -73,13 +75,15 @@ prove:
 	  $(RT) check $$crate >build/prove.log 2>&1 || { cat build/prove.log; exit 1; }; \
 	done
 
-demo:
+demo: EXAMPLE = charger
+screen: EXAMPLE = screen
+demo screen:
 	@$(MAKE) -s -q build/x86-64/libqmtd.a || $(MAKE) -s prove lib
-	@$(MAKE) -s build/charger
-	@build/charger
+	@$(MAKE) -s build/$(EXAMPLE)
+	@build/$(EXAMPLE)
 
-build/charger: examples/charger.c include/qmtd.h build/x86-64/libqmtd.a
-	$(CC) $(CFLAGS) -Iinclude examples/charger.c build/x86-64/libqmtd.a -o $@
+build/charger build/screen: build/%: examples/%.c include/qmtd.h build/x86-64/libqmtd.a
+	$(CC) $(CFLAGS) -Iinclude $< build/x86-64/libqmtd.a -o $@
 
 board:
 	@$(MAKE) -s lib TARGET=cortex-m4

@@ -87,7 +87,7 @@ struct row {
 struct answer {
     uint32_t number;
     uint8_t page[2 * QMTD_MAX_K], result[QMTD_MAX_K], syndrome[QMTD_MAX_K], difference[QMTD_MAX_K];
-    uint8_t counts[QMTD_COUNTS_LEN];
+    uint8_t margins[QMTD_MARGINS_LEN(QMTD_MAX_K)], counts[QMTD_COUNTS_LEN];
 };
 
 /* A generator of numbers that are the same in every run (xorshift). */
@@ -195,8 +195,8 @@ static void make_call(const struct implementation *by, const struct row *row, st
         break;
     case DECODE:
         answer->number = by->decode(q, k, table, table_len, row->page, 2 * k, row->thresholds, sizeof row->thresholds,
-                                    answer->result, k, answer->syndrome, k, answer->difference, k, answer->counts,
-                                    sizeof answer->counts);
+                                    answer->result, k, answer->syndrome, k, answer->difference, k, answer->margins,
+                                    4 * k, answer->counts, sizeof answer->counts);
         break;
     }
 }

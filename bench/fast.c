@@ -226,24 +226,70 @@ uint32_t CALL(syndrome)(uint32_t q, uint32_t k, const uint8_t *table, uint64_t t
 
 /* ---- Decoding ---- */
 
-/* The value that leads all others by more than the threshold, or 0 if none does; zero itself has `zeros` votes.
- * The estimates here are those that are not 0. votes has a count for each value, all 0 before and after. */
-static inline uint8_t vote(const uint8_t *estimates, size_t n, uint32_t zeros, uint32_t threshold, uint8_t *votes)
+/* Counts estimates that are not 0, and returns the largest count, with its value in the low byte. votes has a count for
+ * each value, all 0 before. */
+static inline uint32_t count_votes(const uint8_t *estimates, size_t n, uint8_t *votes)
 {
-    uint32_t first = 0, next = zeros; /* first is a count, with its value in the low byte */
+    uint32_t first = 0;
     for (size_t a = 0; a < n; a++) {
         uint32_t count = ++votes[estimates[a]] * 256u + estimates[a];
         first = count > first ? count : first;
     }
+    return first;
+}
+
+static inline void clear_votes(const uint8_t *estimates, size_t n, uint8_t *votes)
+{
+    for (size_t a = 0; a < n; a++)
+        votes[estimates[a]] = 0;
+}
+
+/* The value that leads all others by more than the threshold, or 0 if none does; zero itself has `zeros` votes.
+ * The estimates here are those that are not 0. */
+static inline uint8_t vote(const uint8_t *estimates, size_t n, uint32_t zeros, uint32_t threshold, uint8_t *votes)
+{
+    uint32_t first = count_votes(estimates, n, votes), lead = first / 256, next = zeros;
     uint8_t leader = (uint8_t)first;
-    uint32_t lead = first / 256;
     if (lead > zeros + threshold)
         for (size_t a = 0; a < n; a++)
             if (estimates[a] != leader && votes[estimates[a]] > next)
                 next = votes[estimates[a]];
-    for (size_t a = 0; a < n; a++)
-        votes[estimates[a]] = 0;
+    clear_votes(estimates, n, votes);
     return lead > next + threshold ? leader : 0;
+}
+
+/* Where the checks of symbol j are, counted from j. The positions from `straight` on have wrapped. */
+struct offsets {
+    size_t straight;
+    ptrdiff_t at[QMTD_MAX_J];
+};
+
+static inline void start_offsets(const struct positions *positions, struct offsets *offsets)
+{
+    offsets->straight = positions->count;
+    for (size_t a = 0; a < positions->count; a++)
+        offsets->at[a] = (ptrdiff_t)positions->at[a];
+}
+
+/* On to symbol j, from one before it. */
+static inline void move_offsets(size_t k, const struct positions *positions, size_t j, struct offsets *offsets)
+{
+    while (offsets->straight > 0 && j + positions->at[offsets->straight - 1] >= k)
+        offsets->at[--offsets->straight] -= (ptrdiff_t)k;
+}
+
+/* The estimates of a symbol that are not 0; returns how many. */
+static inline size_t gather(uint8_t difference, const uint8_t *checks, const ptrdiff_t *offsets, size_t n,
+                            uint8_t *estimates)
+{
+    size_t others = difference != 0;
+    estimates[0] = difference;
+    for (size_t a = 0; a < n; a++) {
+        uint8_t estimate = checks[offsets[a]];
+        estimates[others] = estimate;
+        others += estimate != 0;
+    }
+    return others;
 }
 
 /* How many of the symbols at the offsets are 0. */
@@ -268,29 +314,21 @@ static uint32_t pass(uint8_t q, size_t k, const struct positions *restrict posit
                      uint8_t *restrict difference)
 {
     uint32_t changes = 0;
-    size_t n = positions->count, straight = n; /* the positions from `straight` on have wrapped */
-    ptrdiff_t offsets[QMTD_MAX_J];             /* the checks of symbol j are at j + offset */
-    for (size_t a = 0; a < n; a++)
-        offsets[a] = (ptrdiff_t)positions->at[a];
+    size_t n = positions->count;
+    struct offsets offsets;
+    start_offsets(positions, &offsets);
 
     for (size_t j = 0; j < k; j++) {
-        while (straight > 0 && j + positions->at[straight - 1] >= k)
-            offsets[--straight] -= (ptrdiff_t)k;
+        move_offsets(k, positions, j, &offsets);
 
         /* Where zeros are this many, no value can lead them by more than the threshold. */
         uint8_t *checks = syndrome + j;
-        uint32_t zeros = zeros_at(checks, offsets, n) + (difference[j] == 0);
+        uint32_t zeros = zeros_at(checks, offsets.at, n) + (difference[j] == 0);
         if (n + 1 <= 2 * zeros + threshold)
             continue;
 
         uint8_t estimates[QMTD_MAX_J + 1];
-        size_t others = difference[j] != 0;
-        estimates[0] = difference[j];
-        for (size_t a = 0; a < n; a++) {
-            uint8_t estimate = checks[offsets[a]];
-            estimates[others] = estimate;
-            others += estimate != 0;
-        }
+        size_t others = gather(difference[j], checks, offsets.at, n, estimates);
         uint8_t h = vote(estimates, others, zeros, threshold, votes);
         if (h == 0)
             continue;
@@ -299,7 +337,7 @@ static uint32_t pass(uint8_t q, size_t k, const struct positions *restrict posit
         result[j] = subtract(q, result[j], h);
         difference[j] = subtract(q, difference[j], h);
         for (size_t a = 0; a < n; a++)
-            checks[offsets[a]] = subtract(q, checks[offsets[a]], h);
+            checks[offsets.at[a]] = subtract(q, checks[offsets.at[a]], h);
     }
     return changes;
 }
@@ -310,17 +348,73 @@ static void write_number(uint8_t *bytes, uint32_t number)
         bytes[i] = (uint8_t)(number >> 8 * i);
 }
 
+/* ---- Margins ---- */
+
+static void count_zeros(uint8_t *restrict zeros, const uint8_t *restrict symbols, size_t n)
+{
+    for (size_t i = 0; i < n; i++)
+        zeros[i] = (uint8_t)(zeros[i] + (symbols[i] == 0));
+}
+
+/* A margin in one store: x86-64 has a number's low byte first. */
+static inline void put_margin(uint8_t *margins, size_t j, uint32_t margin)
+{
+    __builtin_memcpy(margins + 4 * j, &margin, 4);
+}
+
+static void fill_margins(uint8_t *margins, size_t k, uint32_t margin)
+{
+    for (size_t j = 0; j < k; j++)
+        put_margin(margins, j, margin);
+}
+
+/* The margins where no two of the other estimates are equal. */
+static void write_margins_of_zeros(uint8_t *restrict margins, const uint8_t *restrict zeros, size_t k, uint32_t all)
+{
+    for (size_t j = 0; j < k; j++)
+        put_margin(margins, j, zeros[j] - (uint32_t)(zeros[j] != all));
+}
+
+/* The zeros of all symbols are counted in straight runs; a vote is taken where two estimates or more are not 0. */
+static void write_margins(size_t k, const struct positions *restrict positions, uint8_t *restrict votes,
+                          const uint8_t *restrict syndrome, const uint8_t *restrict difference,
+                          uint8_t *restrict margins)
+{
+    size_t n = positions->count;
+    uint8_t zeros[QMTD_MAX_K];
+    for (size_t j = 0; j < k; j++)
+        zeros[j] = difference[j] == 0;
+    for (size_t a = 0; a < n; a++) {
+        size_t p = positions->at[a];
+        count_zeros(zeros, syndrome + p, k - p);
+        count_zeros(zeros + (k - p), syndrome, p);
+    }
+    write_margins_of_zeros(margins, zeros, k, (uint32_t)n + 1);
+
+    struct offsets offsets;
+    start_offsets(positions, &offsets);
+    for (size_t j = 0; j < k; j++)
+        if (zeros[j] < n) {
+            uint8_t estimates[QMTD_MAX_J + 1];
+            move_offsets(k, positions, j, &offsets);
+            size_t others = gather(difference[j], syndrome + j, offsets.at, n, estimates);
+            put_margin(margins, j, zeros[j] - count_votes(estimates, others, votes) / 256);
+            clear_votes(estimates, others, votes);
+        }
+}
+
 uint32_t CALL(decode)(uint32_t q, uint32_t k, const uint8_t *table, uint64_t table_len,
                       const uint8_t *page, uint64_t page_len, const uint8_t *thresholds, uint64_t thresholds_len,
                       uint8_t *result, uint64_t result_len, uint8_t *syndrome, uint64_t syndrome_len,
-                      uint8_t *difference, uint64_t difference_len, uint8_t *counts, uint64_t counts_len)
+                      uint8_t *difference, uint64_t difference_len, uint8_t *margins, uint64_t margins_len,
+                      uint8_t *counts, uint64_t counts_len)
 {
     struct positions positions;
     uint32_t number = read_table(q, k, table, table_len, &positions);
     if (number != QMTD_OK)
         return number;
     if (page_len != 2 * (size_t)k || result_len != k || syndrome_len != k || difference_len != k ||
-        counts_len != QMTD_COUNTS_LEN)
+        margins_len != 4 * (size_t)k || counts_len != QMTD_COUNTS_LEN)
         return QMTD_BAD_LENGTH;
     if (out_of_range(q, page, page_len))
         return QMTD_BAD_SYMBOL;
@@ -333,7 +427,7 @@ uint32_t CALL(decode)(uint32_t q, uint32_t k, const uint8_t *table, uint64_t tab
     memset(difference, 0, k);
     work_out_syndrome(q, k, &positions, page, syndrome);
 
-    /* A page at distance 0 needs no visits: its one pass changes nothing. */
+    /* A page at distance 0 needs no visits: its one pass changes nothing, and every estimate is 0. */
     uint32_t start = weight(syndrome, k), end = 0, passes = 1, changes = 0;
     if (start > 0) {
         uint8_t votes[256] = {0};
@@ -345,6 +439,9 @@ uint32_t CALL(decode)(uint32_t q, uint32_t k, const uint8_t *table, uint64_t tab
                 break;
         }
         end = weight(syndrome, k) + weight(difference, k);
+        write_margins(k, &positions, votes, syndrome, difference, margins);
+    } else {
+        fill_margins(margins, k, (uint32_t)positions.count + 1);
     }
 
     write_number(counts, passes);

@@ -122,17 +122,37 @@ static uint32_t votes(const uint8_t *estimates, size_t n, uint8_t value)
     return count;
 }
 
+/* The J + 1 estimates of a data symbol. */
+static void collect(uint32_t k, const uint8_t *table, size_t j, uint32_t symbol, const uint8_t *syndrome,
+                    const uint8_t *difference, uint8_t *estimates)
+{
+    estimates[0] = difference[symbol];
+    for (size_t a = 0; a < j; a++)
+        estimates[a + 1] = syndrome[(symbol + position(table, a)) % k];
+}
+
+/* The largest count of a value other than the one given, 0 if there is none. */
+static uint32_t most_of_others(const uint8_t *estimates, size_t n, uint8_t value)
+{
+    uint32_t most = 0;
+    for (size_t a = 0; a < n; a++)
+        if (estimates[a] != value) {
+            uint32_t count = votes(estimates, n, estimates[a]);
+            if (count > most)
+                most = count;
+        }
+    return most;
+}
+
 /* Visits one data symbol. Was it a change? */
 static int visit(uint32_t q, uint32_t k, const uint8_t *table, size_t j, uint32_t symbol, uint32_t threshold,
                  uint8_t *result, uint8_t *syndrome, uint8_t *difference)
 {
     uint8_t estimates[QMTD_MAX_J + 1];
-    estimates[0] = difference[symbol];
-    for (size_t a = 0; a < j; a++)
-        estimates[a + 1] = syndrome[(symbol + position(table, a)) % k];
+    collect(k, table, j, symbol, syndrome, difference, estimates);
 
     uint8_t leader = 0;
-    uint32_t lead = 0, next = 0;
+    uint32_t lead = 0;
     for (size_t a = 0; a < j + 1; a++) {
         uint32_t count = votes(estimates, j + 1, estimates[a]);
         if (count > lead) {
@@ -140,14 +160,7 @@ static int visit(uint32_t q, uint32_t k, const uint8_t *table, size_t j, uint32_
             leader = estimates[a];
         }
     }
-    for (size_t a = 0; a < j + 1; a++)
-        if (estimates[a] != leader) {
-            uint32_t count = votes(estimates, j + 1, estimates[a]);
-            if (count > next)
-                next = count;
-        }
-
-    if (lead - next <= threshold || leader == 0)
+    if (lead - most_of_others(estimates, j + 1, leader) <= threshold || leader == 0)
         return 0;
     result[symbol] = (uint8_t)((result[symbol] + q - leader) % q);
     difference[symbol] = (uint8_t)((difference[symbol] + q - leader) % q);
@@ -167,13 +180,14 @@ static void write_number(uint8_t *bytes, uint32_t number)
 uint32_t CALL(decode)(uint32_t q, uint32_t k, const uint8_t *table, uint64_t table_len,
                       const uint8_t *page, uint64_t page_len, const uint8_t *thresholds, uint64_t thresholds_len,
                       uint8_t *result, uint64_t result_len, uint8_t *syndrome, uint64_t syndrome_len,
-                      uint8_t *difference, uint64_t difference_len, uint8_t *counts, uint64_t counts_len)
+                      uint8_t *difference, uint64_t difference_len, uint8_t *margins, uint64_t margins_len,
+                      uint8_t *counts, uint64_t counts_len)
 {
     uint32_t number = CALL(check_table)(q, k, table, table_len);
     if (number != QMTD_OK)
         return number;
     if (page_len != 2 * (size_t)k || result_len != k || syndrome_len != k || difference_len != k ||
-        counts_len != QMTD_COUNTS_LEN)
+        margins_len != 4 * (size_t)k || counts_len != QMTD_COUNTS_LEN)
         return QMTD_BAD_LENGTH;
     if (!all_below(q, page, page_len))
         return QMTD_BAD_SYMBOL;
@@ -198,6 +212,11 @@ uint32_t CALL(decode)(uint32_t q, uint32_t k, const uint8_t *table, uint64_t tab
             break;
     }
 
+    for (uint32_t symbol = 0; symbol < k; symbol++) {
+        uint8_t estimates[QMTD_MAX_J + 1];
+        collect(k, table, j, symbol, syndrome, difference, estimates);
+        write_number(margins + 4 * symbol, votes(estimates, j + 1, 0) - most_of_others(estimates, j + 1, 0));
+    }
     write_number(counts, passes);
     write_number(counts + 4, changes);
     write_number(counts + 8, start);

@@ -17,7 +17,7 @@ static const uint8_t thresholds[] = {0, 0, 0};
 static const uint8_t allowed[K] = {0, 0, 4, 8, 16, 24, 32, 40, 40, 32, 24, 8, 0};
 
 struct decoded {
-    uint8_t limits[K], syndrome[K], difference[K], counts[QMTD_COUNTS_LEN];
+    uint8_t limits[K], syndrome[K], difference[K], margins[QMTD_MARGINS_LEN(K)], counts[QMTD_COUNTS_LEN];
 };
 
 static unsigned count(const struct decoded *d, int which)
@@ -28,8 +28,8 @@ static unsigned count(const struct decoded *d, int which)
 
 static uint32_t decode(const uint8_t *page, size_t page_len, struct decoded *d)
 {
-    return qmtd_decode(Q, K, table, sizeof table, page, page_len, thresholds, sizeof thresholds,
-                       d->limits, K, d->syndrome, K, d->difference, K, d->counts, sizeof d->counts);
+    return qmtd_decode(Q, K, table, sizeof table, page, page_len, thresholds, sizeof thresholds, d->limits, K,
+                       d->syndrome, K, d->difference, K, d->margins, sizeof d->margins, d->counts, sizeof d->counts);
 }
 
 static void print_counts(const struct decoded *d)

@@ -8,7 +8,7 @@ int main(void)
     const uint8_t table[] = {0, 0, 1, 0, 4, 0, 6, 0}; /* positions 0, 1, 4, 6; two bytes each, low byte first */
     const uint8_t thresholds[] = {0, 0};              /* two passes */
     const uint8_t data[13] = "Hello, pack!";
-    uint8_t page[26], result[13], syndrome[13], difference[13], counts[QMTD_COUNTS_LEN];
+    uint8_t page[26], result[13], syndrome[13], difference[13], margins[52], counts[QMTD_COUNTS_LEN];
 
     if (qmtd_encode(256, 13, table, sizeof table, data, 13, page, sizeof page) != QMTD_OK)
         return 1;
@@ -17,7 +17,8 @@ int main(void)
     page[20] = 0;    /* .. and a check symbol: 2 * 2 + 0 <= 4, so the data comes back */
 
     if (qmtd_decode(256, 13, table, sizeof table, page, sizeof page, thresholds, sizeof thresholds,
-                    result, 13, syndrome, 13, difference, 13, counts, sizeof counts) != QMTD_OK)
+                    result, 13, syndrome, 13, difference, 13, margins, sizeof margins,
+                    counts, sizeof counts) != QMTD_OK)
         return 1;
     return memcmp(result, data, 13) != 0;
 }

@@ -4,7 +4,8 @@
  *   - checks a code table               qmtd_check_table
  *   - encodes data into a page          qmtd_encode
  *   - works out a page's syndrome       qmtd_syndrome
- *   - decodes a received page           qmtd_decode
+ *   - decodes a received page, with how firmly each of its data symbols then stands
+ *                                       qmtd_decode
  *
  * WHAT IT DOES NOT DO. Damage means that a symbol is replaced by another: lost or inserted symbols are not handled.
  * There are no convolutional codes, no soft decisions and no simulated channels. Decoding is no checksum: QMTD_OK says
@@ -53,8 +54,8 @@ extern "C" {
 /* ---- Version ---- */
 
 #define QMTD_VERSION_MAJOR 0
-#define QMTD_VERSION_MINOR 1
-#define QMTD_VERSION_PATCH 1
+#define QMTD_VERSION_MINOR 2
+#define QMTD_VERSION_PATCH 0
 #define QMTD_VERSION_NUMBER (QMTD_VERSION_MAJOR * 10000 + QMTD_VERSION_MINOR * 100 + QMTD_VERSION_PATCH)
 
 /* ---- Limits, both ends included ---- */
@@ -71,9 +72,11 @@ extern "C" {
 
 /* ---- Lengths in bytes ---- */
 
-#define QMTD_TABLE_LEN(j) (2 * (j)) /* a table of j positions */
-#define QMTD_PAGE_LEN(k) (2 * (k))  /* a page; data, result, syndrome and difference are k bytes each */
-#define QMTD_COUNTS_LEN 16          /* the counts of a decode */
+#define QMTD_TABLE_LEN(j) (2 * (j))   /* a table of j positions */
+#define QMTD_PAGE_LEN(k) (2 * (k))    /* a page; data, result, syndrome and difference are k bytes each */
+#define QMTD_MARGIN_LEN 4             /* a margin */
+#define QMTD_MARGINS_LEN(k) (4 * (k)) /* the margins of a decode, one for each data symbol */
+#define QMTD_COUNTS_LEN 16            /* the counts of a decode */
 
 /* ---- Returned numbers ---- */
 
@@ -136,6 +139,15 @@ uint32_t qmtd_syndrome(uint32_t q, uint32_t k, const uint8_t *table, uint64_t ta
  *   result      written whole: k symbols, the decoded data
  *   syndrome    written whole: k symbols, the syndrome as the last visit left it
  *   difference  written whole: k symbols, result minus received data
+ *   margins     written whole: 4 * k bytes, a signed 32-bit number for each data symbol, two's complement, low byte
+ *               first; qmtd_margin below reads one. The margin of data symbol j is the number of zeros among its J + 1
+ *               estimates, from the syndrome and the difference handed back, minus the largest count of any one other
+ *               value, 0 if there is none: how firmly the symbol stands in the result. It is from -(J + 1) to J + 1.
+ *                 J + 1      every estimate is 0: nothing speaks against the symbol
+ *                 0 or less  another value has at least as many votes as 0
+ *                 -(J + 1)   every estimate is one same other value
+ *               A visit with threshold T would change nothing at j where the margin is -T or more. A margin, like
+ *               QMTD_OK, does not say that the symbol is the one sent.
  *   counts      written whole: 16 bytes, four 32-bit numbers, low byte first:
  *                 bytes  0 to  3  passes run, a last one without a change included
  *                 bytes  4 to  7  changes
@@ -143,7 +155,7 @@ uint32_t qmtd_syndrome(uint32_t q, uint32_t k, const uint8_t *table, uint64_t ta
  *                 bytes 12 to 15  distance at the end
  *               A distance is the number of places, of 2 * k, where the page encoded from the result as it then stands
  *               differs from the received page.
- * Returns QMTD_OK, or 1 to 9; refused, result, syndrome, difference and counts are left as they were. */
+ * Returns QMTD_OK, or 1 to 9; refused, result, syndrome, difference, margins and counts are left as they were. */
 QMTD_MUST_USE
 uint32_t qmtd_decode(uint32_t q, uint32_t k, const uint8_t *table, uint64_t table_len,
                      const uint8_t *page, uint64_t page_len,
@@ -151,7 +163,18 @@ uint32_t qmtd_decode(uint32_t q, uint32_t k, const uint8_t *table, uint64_t tabl
                      uint8_t *result, uint64_t result_len,
                      uint8_t *syndrome, uint64_t syndrome_len,
                      uint8_t *difference, uint64_t difference_len,
+                     uint8_t *margins, uint64_t margins_len,
                      uint8_t *counts, uint64_t counts_len);
+
+/* The margin of data symbol j among the margins that a decode wrote. C of this header, not a call of the archive. */
+static inline int32_t qmtd_margin(const uint8_t *margins, uint64_t j)
+{
+    const uint8_t *bytes = margins + QMTD_MARGIN_LEN * j;
+    int32_t margin = bytes[3] < 128 ? bytes[3] : bytes[3] - 256;
+    margin = margin * 256 + bytes[2];
+    margin = margin * 256 + bytes[1];
+    return margin * 256 + bytes[0];
+}
 
 #ifdef __cplusplus
 }

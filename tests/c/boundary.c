@@ -1,5 +1,6 @@
-/* boundary.c - what the reference pages cannot hold: null pointers, the length of the counts, names in the header,
- * unaligned memory, and the promise that data comes back from a page with few enough symbols replaced. */
+/* boundary.c - what the reference pages cannot hold: null pointers, the length of the counts, names in the header, the
+ * reading of a margin, unaligned memory, and the promise that data comes back from a page with few enough symbols
+ * replaced. */
 #include "qmtd.h"
 
 #include <stdio.h>
@@ -22,7 +23,7 @@ static const uint8_t table_a[QMTD_TABLE_LEN(J)] = {0, 0, 1, 0, 4, 0, 6, 0};
 
 /* All that a decode takes, in memory of exactly the right length; the calls below pass parts of it. */
 static uint8_t data[K], page[QMTD_PAGE_LEN(K)], thresholds[2];
-static uint8_t result[K], syndrome[K], difference[K], counts[QMTD_COUNTS_LEN];
+static uint8_t result[K], syndrome[K], difference[K], margins[QMTD_MARGINS_LEN(K)], counts[QMTD_COUNTS_LEN];
 
 /* Data and page all 0, thresholds 0, 0; every lent answer full of 0xEE. */
 static void prepare(void)
@@ -33,6 +34,7 @@ static void prepare(void)
     memset(result, 0xEE, sizeof result);
     memset(syndrome, 0xEE, sizeof syndrome);
     memset(difference, 0xEE, sizeof difference);
+    memset(margins, 0xEE, sizeof margins);
     memset(counts, 0xEE, sizeof counts);
 }
 
@@ -47,7 +49,8 @@ static int all(const uint8_t *bytes, size_t len, uint8_t value)
 static int answers_untouched(void)
 {
     return all(result, sizeof result, 0xEE) && all(syndrome, sizeof syndrome, 0xEE) &&
-           all(difference, sizeof difference, 0xEE) && all(counts, sizeof counts, 0xEE);
+           all(difference, sizeof difference, 0xEE) && all(margins, sizeof margins, 0xEE) &&
+           all(counts, sizeof counts, 0xEE);
 }
 
 /* A decode of code A at q = 5 with the given table, page, thresholds and length of the counts. */
@@ -55,7 +58,8 @@ static uint32_t decode(const uint8_t *table, size_t table_len, size_t page_len,
                        const uint8_t *list, size_t list_len, size_t counts_len)
 {
     return qmtd_decode(5, K, table, table_len, page, page_len, list, list_len, result, sizeof result,
-                       syndrome, sizeof syndrome, difference, sizeof difference, counts, counts_len);
+                       syndrome, sizeof syndrome, difference, sizeof difference, margins, sizeof margins,
+                       counts, counts_len);
 }
 
 static uint32_t number_at(const uint8_t *bytes)
@@ -91,23 +95,25 @@ static void null_with_length_0(void)
     EXPECT(qmtd_syndrome(5, 0, t, n, NULL, 0, NULL, 0) == QMTD_BAD_K);
     EXPECT(qmtd_syndrome(0, 0, NULL, 0, NULL, 0, NULL, 0) == QMTD_BAD_Q);
 
-    EXPECT(qmtd_decode(5, K, NULL, 0, page, 2 * K, thresholds, 2, result, K, syndrome, K, difference, K, counts, 16)
-           == QMTD_BAD_J);
-    EXPECT(qmtd_decode(5, K, t, n, NULL, 0, thresholds, 2, result, K, syndrome, K, difference, K, counts, 16)
-           == QMTD_BAD_LENGTH);
-    EXPECT(qmtd_decode(5, K, t, n, page, 2 * K, NULL, 0, result, K, syndrome, K, difference, K, counts, 16)
-           == QMTD_BAD_THRESHOLD_COUNT);
-    EXPECT(qmtd_decode(5, K, t, n, page, 2 * K, thresholds, 2, NULL, 0, syndrome, K, difference, K, counts, 16)
-           == QMTD_BAD_LENGTH);
-    EXPECT(qmtd_decode(5, K, t, n, page, 2 * K, thresholds, 2, result, K, NULL, 0, difference, K, counts, 16)
-           == QMTD_BAD_LENGTH);
-    EXPECT(qmtd_decode(5, K, t, n, page, 2 * K, thresholds, 2, result, K, syndrome, K, NULL, 0, counts, 16)
-           == QMTD_BAD_LENGTH);
-    EXPECT(qmtd_decode(5, K, t, n, page, 2 * K, thresholds, 2, result, K, syndrome, K, difference, K, NULL, 0)
-           == QMTD_BAD_LENGTH);
-    EXPECT(qmtd_decode(5, K, t, n, NULL, 0, NULL, 0, NULL, 0, NULL, 0, NULL, 0, NULL, 0) == QMTD_BAD_LENGTH);
-    EXPECT(qmtd_decode(5, 0, t, n, NULL, 0, NULL, 0, NULL, 0, NULL, 0, NULL, 0, NULL, 0) == QMTD_BAD_K);
-    EXPECT(qmtd_decode(0, 0, NULL, 0, NULL, 0, NULL, 0, NULL, 0, NULL, 0, NULL, 0, NULL, 0) == QMTD_BAD_Q);
+    EXPECT(qmtd_decode(5, K, NULL, 0, page, 2 * K, thresholds, 2, result, K, syndrome, K, difference, K, margins, 4 * K,
+                       counts, 16) == QMTD_BAD_J);
+    EXPECT(qmtd_decode(5, K, t, n, NULL, 0, thresholds, 2, result, K, syndrome, K, difference, K, margins, 4 * K,
+                       counts, 16) == QMTD_BAD_LENGTH);
+    EXPECT(qmtd_decode(5, K, t, n, page, 2 * K, NULL, 0, result, K, syndrome, K, difference, K, margins, 4 * K,
+                       counts, 16) == QMTD_BAD_THRESHOLD_COUNT);
+    EXPECT(qmtd_decode(5, K, t, n, page, 2 * K, thresholds, 2, NULL, 0, syndrome, K, difference, K, margins, 4 * K,
+                       counts, 16) == QMTD_BAD_LENGTH);
+    EXPECT(qmtd_decode(5, K, t, n, page, 2 * K, thresholds, 2, result, K, NULL, 0, difference, K, margins, 4 * K,
+                       counts, 16) == QMTD_BAD_LENGTH);
+    EXPECT(qmtd_decode(5, K, t, n, page, 2 * K, thresholds, 2, result, K, syndrome, K, NULL, 0, margins, 4 * K,
+                       counts, 16) == QMTD_BAD_LENGTH);
+    EXPECT(qmtd_decode(5, K, t, n, page, 2 * K, thresholds, 2, result, K, syndrome, K, difference, K, NULL, 0,
+                       counts, 16) == QMTD_BAD_LENGTH);
+    EXPECT(qmtd_decode(5, K, t, n, page, 2 * K, thresholds, 2, result, K, syndrome, K, difference, K, margins, 4 * K,
+                       NULL, 0) == QMTD_BAD_LENGTH);
+    EXPECT(qmtd_decode(5, K, t, n, NULL, 0, NULL, 0, NULL, 0, NULL, 0, NULL, 0, NULL, 0, NULL, 0) == QMTD_BAD_LENGTH);
+    EXPECT(qmtd_decode(5, 0, t, n, NULL, 0, NULL, 0, NULL, 0, NULL, 0, NULL, 0, NULL, 0, NULL, 0) == QMTD_BAD_K);
+    EXPECT(qmtd_decode(0, 0, NULL, 0, NULL, 0, NULL, 0, NULL, 0, NULL, 0, NULL, 0, NULL, 0, NULL, 0) == QMTD_BAD_Q);
 
     EXPECT(answers_untouched() && all(page, sizeof page, 0));
 }
@@ -126,7 +132,7 @@ static void counts_length(void)
         memset(block, 0xEE, len + 1);
         prepare();
         EXPECT(qmtd_decode(5, K, table_a, sizeof table_a, page, sizeof page, thresholds, 2, result, K, syndrome, K,
-                           difference, K, block, len) == QMTD_BAD_LENGTH);
+                           difference, K, margins, sizeof margins, block, len) == QMTD_BAD_LENGTH);
         EXPECT(all(block, len + 1, 0xEE));
         free(block);
     }
@@ -136,6 +142,8 @@ static void counts_length(void)
     EXPECT(decode(table_a, sizeof table_a, sizeof page, list, 0, 15) == QMTD_BAD_LENGTH);
     EXPECT(decode(table_a, sizeof table_a, sizeof page, list, 65, 15) == QMTD_BAD_LENGTH);
     EXPECT(decode(table_a, sizeof table_a, sizeof page, list, 1, 15) == QMTD_BAD_LENGTH);
+    EXPECT(qmtd_decode(5, K, table_a, sizeof table_a, page, sizeof page, thresholds, 2, result, K, syndrome, K,
+                       difference, K, margins, sizeof margins - 1, counts, 15) == QMTD_BAD_LENGTH);
     page[3] = 5;
     EXPECT(decode(table_a, sizeof table_a, sizeof page, thresholds, 2, 15) == QMTD_BAD_LENGTH);
     EXPECT(decode(table_a, sizeof table_a, sizeof page, thresholds, 2, 16) == QMTD_BAD_SYMBOL);
@@ -196,28 +204,42 @@ static void names(void)
     EXPECT(decode(table_a, n, sizeof page, list, QMTD_MAX_THRESHOLDS, sizeof counts) == QMTD_OK);
 }
 
+/* The header's reading of a margin, and its lengths. */
+static void margin_bytes(void)
+{
+    static const uint8_t bytes[] = {33, 0, 0, 0, 0xDF, 0xFF, 0xFF, 0xFF, 0, 0, 0, 0, 0xFF, 0xFF, 0xFF, 0xFF,
+                                    1, 2, 3, 4, 0xFF, 0xFF, 0xFF, 0x7F, 0, 0, 0, 0x80};
+    static const int32_t numbers[] = {33, -33, 0, -1, 67305985, INT32_MAX, INT32_MIN};
+    for (size_t i = 0; i < sizeof numbers / sizeof numbers[0]; i++)
+        EXPECT(qmtd_margin(bytes, i) == numbers[i]);
+    EXPECT(QMTD_MARGIN_LEN == 4 && sizeof bytes == QMTD_MARGINS_LEN(sizeof numbers / sizeof numbers[0]));
+}
+
 /* Case 9 of document 01 with every piece at every distance from an aligned address. */
 static void unaligned(void)
 {
     static const uint8_t case_9_counts[QMTD_COUNTS_LEN] = {2, 0, 0, 0, 2, 0, 0, 0, 7, 0, 0, 0, 2, 0, 0, 0};
-    enum { ROOM = 64 };
+    enum { ROOM = 80 };
     static union {
         uint64_t alignment;
-        uint8_t bytes[7][ROOM];
+        uint8_t bytes[8][ROOM];
     } memory;
     for (size_t shift = 0; shift < 16; shift++) {
-        uint8_t *at[7];
+        uint8_t *at[8];
         memset(memory.bytes, 0, sizeof memory.bytes);
-        for (size_t i = 0; i < 7; i++)
+        for (size_t i = 0; i < 8; i++)
             at[i] = memory.bytes[i] + (shift + i) % 16;
         memcpy(at[0], table_a, sizeof table_a);
         at[1][0] = 7;
         at[1][1] = 3;
         EXPECT(qmtd_decode(256, K, at[0], sizeof table_a, at[1], 2 * K, at[2], 2, at[3], K, at[4], K, at[5], K,
-                           at[6], QMTD_COUNTS_LEN) == QMTD_OK);
+                           at[6], QMTD_MARGINS_LEN(K), at[7], QMTD_COUNTS_LEN) == QMTD_OK);
         EXPECT(all(at[3], K, 0) && all(at[4], K, 0));
         EXPECT(at[5][0] == 249 && at[5][1] == 253 && all(at[5] + 2, K - 2, 0));
-        EXPECT(memcmp(at[6], case_9_counts, sizeof case_9_counts) == 0);
+        /* d(0) and d(1) are all that is not 0. */
+        for (size_t j = 0; j < K; j++)
+            EXPECT(qmtd_margin(at[6], j) == (j < 2 ? J - 1 : J + 1));
+        EXPECT(memcmp(at[7], case_9_counts, sizeof case_9_counts) == 0);
 
         EXPECT(qmtd_syndrome(256, K, at[0], sizeof table_a, at[1], 2 * K, at[4], K) == QMTD_OK);
         EXPECT(at[4][0] == 7 && at[4][1] == 10 && at[4][2] == 3 && at[4][5] == 3);
@@ -234,12 +256,26 @@ static uint32_t below(uint32_t n)
     return (uint32_t)(state >> 33) % n;
 }
 
+/* The margin of a data symbol by its definition. */
+static int32_t margin_of(uint32_t k, const uint8_t *table, uint32_t j, const uint8_t *s, const uint8_t *d,
+                         uint32_t symbol)
+{
+    int32_t votes[256] = {0}, most = 0;
+    votes[d[symbol]]++;
+    for (uint32_t a = 0; a < j; a++)
+        votes[s[(symbol + (table[2 * a] | (uint32_t)table[2 * a + 1] << 8)) % k]]++;
+    for (size_t value = 1; value < 256; value++)
+        most = votes[value] > most ? votes[value] : most;
+    return votes[0] - most;
+}
+
 /* At most t of a page's symbols replaced, 2 * t + (first threshold) <= J: decode gives the data back, whatever the
- * later thresholds. The distance at the end is that of the page encoded from the result. */
+ * later thresholds. The distance at the end is that of the page encoded from the result, and the margins are those of
+ * the syndrome and the difference handed back. */
 static void recovery_of(uint32_t q, uint32_t k, const uint8_t *table, uint32_t j, int rounds)
 {
     static uint8_t sent[QMTD_MAX_K], encoded[2 * QMTD_MAX_K], received[2 * QMTD_MAX_K], again[2 * QMTD_MAX_K];
-    static uint8_t back[QMTD_MAX_K], s[QMTD_MAX_K], d[QMTD_MAX_K];
+    static uint8_t back[QMTD_MAX_K], s[QMTD_MAX_K], d[QMTD_MAX_K], m[QMTD_MARGINS_LEN(QMTD_MAX_K)];
     while (rounds-- > 0) {
         for (uint32_t i = 0; i < k; i++)
             sent[i] = (uint8_t)below(q);
@@ -258,7 +294,7 @@ static void recovery_of(uint32_t q, uint32_t k, const uint8_t *table, uint32_t j
 
         uint8_t c[QMTD_COUNTS_LEN];
         EXPECT(qmtd_decode(q, k, table, 2 * j, received, 2 * k, list, 1 + below(sizeof list), back, k, s, k, d, k,
-                           c, sizeof c) == QMTD_OK);
+                           m, 4 * k, c, sizeof c) == QMTD_OK);
         EXPECT(memcmp(back, sent, k) == 0);
         EXPECT(number_at(c + 12) == replaced);
 
@@ -268,6 +304,7 @@ static void recovery_of(uint32_t q, uint32_t k, const uint8_t *table, uint32_t j
             nonzero += (s[i] != 0) + (d[i] != 0);
             EXPECT((received[i] + d[i]) % q == back[i]);
             EXPECT((received[k + i] + s[i]) % q == again[k + i]);
+            EXPECT(qmtd_margin(m, i) == margin_of(k, table, j, s, d, i));
         }
         EXPECT(nonzero == replaced);
     }
@@ -297,6 +334,7 @@ int main(void)
     counts_length();
     odd_table();
     names();
+    margin_bytes();
     unaligned();
     recovery();
     printf("%d failures\n", failures);

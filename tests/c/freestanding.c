@@ -35,12 +35,27 @@ static const uint8_t thresholds[] = {0, 0};
 static const uint8_t expected_difference[K] = {249, 253};
 static const uint8_t expected_counts[QMTD_COUNTS_LEN] = {[0] = 2, [4] = 2, [8] = 7, [12] = 2};
 
-static uint8_t page[2 * K], result[K], syndrome[K], difference[K], counts[QMTD_COUNTS_LEN];
+static uint8_t page[2 * K], result[K], syndrome[K], difference[K], margins[4 * K], counts[QMTD_COUNTS_LEN];
 
 static int same(const uint8_t *a, const uint8_t *b, size_t len)
 {
     for (size_t i = 0; i < len; i++)
         if (a[i] != b[i])
+            return 0;
+    return 1;
+}
+
+static uint32_t decode(uint32_t q)
+{
+    return qmtd_decode(q, K, table, sizeof table, received, sizeof received, thresholds, sizeof thresholds, result, K,
+                       syndrome, K, difference, K, margins, sizeof margins, counts, sizeof counts);
+}
+
+/* Nothing but d(0) and d(1) is left that is not 0. */
+static int margins_right(void)
+{
+    for (int j = 0; j < K; j++)
+        if (qmtd_margin(margins, (uint64_t)j) != (j < 2 ? 3 : 5))
             return 0;
     return 1;
 }
@@ -61,15 +76,12 @@ int run(void)
     if (qmtd_syndrome(256, K, table, sizeof table, page, sizeof page, syndrome, K) != QMTD_OK ||
         !same(syndrome, zeros, K))
         return 4;
-    if (qmtd_decode(256, K, table, sizeof table, received, sizeof received, thresholds, sizeof thresholds, result, K,
-                    syndrome, K, difference, K, counts, sizeof counts) != QMTD_OK)
+    if (decode(256) != QMTD_OK)
         return 5;
     if (!same(result, zeros, K) || !same(syndrome, zeros, K) || !same(difference, expected_difference, K) ||
-        !same(counts, expected_counts, sizeof counts))
+        !margins_right() || !same(counts, expected_counts, sizeof counts))
         return 6;
-    if (qmtd_decode(257, K, table, sizeof table, received, sizeof received, thresholds, sizeof thresholds, result, K,
-                    syndrome, K, difference, K, counts, sizeof counts) != QMTD_BAD_Q ||
-        !same(counts, expected_counts, sizeof counts))
+    if (decode(257) != QMTD_BAD_Q || !margins_right() || !same(counts, expected_counts, sizeof counts))
         return 7;
     return 0;
 }

@@ -40,7 +40,8 @@ static uint32_t syndrome(const uint32_t *n, const struct piece *p)
 
 static uint32_t decode(const uint32_t *n, const struct piece *p)
 {
-    return qmtd_decode(n[0], n[1], LENT(p[0]), LENT(p[1]), LENT(p[2]), LENT(p[3]), LENT(p[4]), LENT(p[5]), LENT(p[6]));
+    return qmtd_decode(n[0], n[1], LENT(p[0]), LENT(p[1]), LENT(p[2]), LENT(p[3]), LENT(p[4]), LENT(p[5]), LENT(p[6]),
+                       LENT(p[7]));
 }
 
 /* The calls by their number in the file: name, how many numbers each takes, the names of its pieces, the call itself.
@@ -55,7 +56,7 @@ static const struct call {
     {"check_table", 2, {"table"}, check_table},
     {"encode", 2, {"table", "data", "page"}, encode},
     {"syndrome", 2, {"table", "page", "syndrome"}, syndrome},
-    {"decode", 2, {"table", "page", "thresholds", "result", "syndrome", "difference", "counts"}, decode},
+    {"decode", 2, {"table", "page", "thresholds", "result", "syndrome", "difference", "margins", "counts"}, decode},
 };
 enum { OPEN_GROUP, CALLS = sizeof calls / sizeof calls[0] };
 

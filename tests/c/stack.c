@@ -12,7 +12,8 @@ enum { K = QMTD_MAX_K, J = 10, STACK = 65536, FILL = 0xA7, ALLOWED = 8192 };
 static const uint8_t table[QMTD_TABLE_LEN(J)] = {0, 0, 1, 0, 6, 0, 10, 0, 23, 0, 26, 0, 34, 0, 41, 0, 53, 0, 55, 0};
 static const uint8_t thresholds[] = {2, 1, 0, 0};
 
-static uint8_t data[K], page[QMTD_PAGE_LEN(K)], result[K], syndrome[K], difference[K], counts[QMTD_COUNTS_LEN];
+static uint8_t data[K], page[QMTD_PAGE_LEN(K)], result[K], syndrome[K], difference[K];
+static uint8_t margins[QMTD_MARGINS_LEN(K)], counts[QMTD_COUNTS_LEN];
 static uint8_t stack[STACK] __attribute__((aligned(16)));
 static uint32_t number;
 
@@ -34,7 +35,7 @@ static void work_out_syndrome(void)
 static void decode(void)
 {
     number = qmtd_decode(251, K, table, sizeof table, page, sizeof page, thresholds, sizeof thresholds, result, K,
-                         syndrome, K, difference, K, counts, sizeof counts);
+                         syndrome, K, difference, K, margins, sizeof margins, counts, sizeof counts);
 }
 
 static void idle(void)

@@ -1,7 +1,8 @@
-"""Makes the reference pages, crates/reference/data/pages.bin, and what the program `reference` must print of them.
+"""Makes the reference pages, crates/reference/data/pages.bin, what the program `reference` must print of them, and what
+examples/screen.c must print.
 
-    make_pages.py            write both files
-    make_pages.py --check    compare both, byte for byte
+    make_pages.py            write the three files
+    make_pages.py --check    compare them, byte for byte
 
 Every expected byte comes from reference.py, which first tries itself on the worked cases of document 01. README.md
 beside this file has the format.
@@ -12,10 +13,12 @@ import sys
 from pathlib import Path
 
 import reference as ref
+import screen
 from codes import SINGER, Random, greedy, positions_for, singer
 from records import CHECK_TABLE, DECODE, ENCODE, SYNDROME, Pages
 
-CRATE = Path(__file__).resolve().parent.parent.parent / "crates" / "reference"
+ROOT = Path(__file__).resolve().parent.parent.parent
+CRATE = ROOT / "crates" / "reference"
 
 # Alphabet sizes: small, prime, even, and on both sides of where the sum of two symbols leaves a byte.
 ALPHABETS = [3, 4, 5, 7, 10, 16, 17, 100, 127, 128, 129, 200, 251, 255, 256]
@@ -42,6 +45,13 @@ def damaged(random, q, page, places):
 
 def random_places(random, k, count):
     return random.some(range(2 * k), count)
+
+
+def other_length(k, at, length):
+    """The lengths of decode's answers, but for one of them."""
+    lengths = list(ref.decode_lengths(k))
+    lengths[at] = length
+    return tuple(lengths)
 
 
 # The groups
@@ -308,7 +318,7 @@ def one_by_one(pages, random):
     pages.syndrome(5, 65549, a, [0] * 26, syndrome_len=13, expect=2)
     pages.decode(5, 0, a, [], [0], expect=2)
     pages.decode(5, 4097, a, [0] * 8194, [0], expect=2)
-    pages.decode(5, 65549, a, [0] * 26, [0], lengths=(13, 13, 13), expect=2)
+    pages.decode(5, 65549, a, [0] * 26, [0], lengths=ref.decode_lengths(13), expect=2)
 
     for length in (12, 14, 0):
         pages.encode(5, k, a, [0] * length, expect=6)
@@ -319,8 +329,8 @@ def one_by_one(pages, random):
     for length in (12, 14, 0):
         pages.syndrome(5, k, a, [0] * 26, syndrome_len=length, expect=6)
     for at, length in itertools.product(range(3), (12, 14, 0)):
-        pages.decode(5, k, a, [0] * 26, [0], lengths=tuple(length if i == at else k for i in range(3)), expect=6)
-    pages.decode(5, k, a, [0] * 26, [0], lengths=(12, 13, 14), expect=6)
+        pages.decode(5, k, a, [0] * 26, [0], lengths=other_length(k, at, length), expect=6)
+    pages.decode(5, k, a, [0] * 26, [0], lengths=(12, 13, 14, 52), expect=6)
     pages.decode(256, 4096, a, [0] * 8193, [0], expect=6)
     pages.decode(256, 4096, a, [0] * 8191, [0], expect=6)
 
@@ -362,7 +372,8 @@ def spoiled(call, numbers):
         return ref.encode_tests(q, k, table, symbols, 2 * k), (q, k, table, symbols)
     if call == SYNDROME:
         return ref.syndrome_tests(q, k, table, symbols, k), (q, k, table, symbols)
-    return ref.decode_tests(q, k, table, symbols, thresholds, k, k, k), (q, k, table, symbols, thresholds)
+    return (ref.decode_tests(q, k, table, symbols, thresholds, *ref.decode_lengths(k)),
+            (q, k, table, symbols, thresholds))
 
 
 @group("refusals in pairs and all together")
@@ -431,7 +442,7 @@ def threshold_lists(pages, random):
     table = ref.table_of([0, 1, 100, 300])
     for length, count, passes, changes in ((70, 64, 64, 64), (63, 64, 64, 63), (62, 64, 63, 62), (30, 20, 20, 20)):
         page = chain(random, length)
-        while ref.decode(256, 512, table, page, [0] * count, 512, 512, 512)[1].changes_of_pass != \
+        while ref.decode(256, 512, table, page, [0] * count, *ref.decode_lengths(512))[1].changes_of_pass != \
                 ([1] * length + [0])[:count]:
             page = chain(random, length)
         got = pages.decode(256, 512, table, page, [0] * count, expect=0)
@@ -459,6 +470,66 @@ def cases_1_to_10(pages, random):
         pages.decode(256, 13, a, page, thresholds, expect=0)
 
 
+@group("margins, heavy damage")
+def margins_heavy(pages, random):
+    """Every symbol random, every J; few passes or strict ones, so that much is left undone."""
+    seen = set()
+    for j in range(1, 33):
+        k = min(k for k, p in SINGER.items() if p + 1 >= j)
+        q = random.pick((3, 4, 5, 10, 251, 256))
+        thresholds = random.pick(([0], [j // 4], [j // 2], [1, 0, 0, 0]))
+        table = ref.table_of(positions_for(random, k, j))
+        seen |= set(pages.decode(q, k, table, random.symbols(q, 2 * k), thresholds, expect=0).margins)
+    assert min(seen) < -5 and max(seen) > 20 and len(seen) > 30
+
+
+def stepped(random, q, k):
+    """A page, data all 0, whose S is 0 in the first half and mostly 1 in the second: from symbol to symbol the zeros
+    among the estimates give way to ones."""
+    s = [0 if i < k // 2 else 1 if random.below(6) else random.below(q) for i in range(k)]
+    return [0] * k + [-x % q for x in s]
+
+
+@group("margins from -(J + 1) to J + 1")
+def margins_all(pages, random):
+    """Each value that the margins of a code can have: all but J, since J zeros leave one other value. The lowest two are
+    those of a symbol that was changed and is to be changed back; a check replaced makes its estimates all but one."""
+    for q, k, positions in ((256, 512, [0, 1, 20, 60]), (5, 512, greedy(512)[:8]), (7, 1021, greedy(1021)[:12]),
+                            (10, 2048, greedy(2048)[:18]), (251, 4096, greedy(4096)[:32])):
+        back = turned_back(q, k, positions)
+        all_but_one = list(back)
+        all_but_one[k + positions[-1]] = 1
+        seen = set()
+        # A threshold of 32 leaves every received page as it is.
+        for page, thresholds in ((stepped(random, q, k), [32]), (back, [0]), (all_but_one, [0])):
+            seen |= set(pages.decode(q, k, ref.table_of(positions), page, thresholds, expect=0).margins)
+        j = len(positions)
+        assert seen == set(range(-j - 1, j + 2)) - {j}
+
+
+def margin_lengths(pages, cases, less):
+    """Lengths of the margins that are refused: those of the cases, a k each, then a length with something else amiss."""
+    margins = 3
+    for k, length in cases:
+        pages.decode(5, k, ref.CODE_A, [0] * (2 * k), [0], lengths=other_length(k, margins, length), expect=6)
+    for met in [(number,) for number in range(1, 10)] + [(7, 8, 9)]:
+        _, arguments = spoiled(DECODE, met)
+        k = arguments[1]
+        pages.decode(*arguments, lengths=other_length(k, margins, 4 * k - less), expect=min(6, *met))
+
+
+@group("margins, lengths of whole numbers")
+def margin_lengths_whole(pages, random):
+    margin_lengths(pages, ((13, 0), (13, 4), (13, 48), (13, 56), (13, 104), (256, 256), (256, 512), (256, 1020),
+                           (4096, 4096), (4096, 16380), (4096, 16388)), less=4)
+
+
+@group("margins, other lengths", c_only=True)
+def margin_lengths_other(pages, random):
+    margin_lengths(pages, ((13, 1), (13, 3), (13, 13), (13, 26), (13, 49), (13, 50), (13, 51), (13, 53), (13, 54),
+                           (13, 55), (4096, 16383), (4096, 16385)), less=1)
+
+
 def make():
     ref.self_check()
     pages = Pages()
@@ -470,7 +541,8 @@ def make():
 
 def main(arguments):
     pages = make()
-    files = {CRATE / "data" / "pages.bin": pages.content(), CRATE / "stdout": pages.report()}
+    files = {CRATE / "data" / "pages.bin": pages.content(), CRATE / "stdout": pages.report(),
+             ROOT / "examples" / "screen.expected": screen.content()}
     if arguments == ["--check"]:
         for file, made in files.items():
             if file.read_bytes() != made:

@@ -12,7 +12,7 @@ OPEN_GROUP, CHECK_TABLE, ENCODE, SYNDROME, DECODE = range(5)
 BEFORE, AFTER = 1, 2
 
 # What readers may rely on for the size of their buffers.
-MOST_STRING, MOST_RECORD = 8300, 32768
+MOST_STRING, MOST_RECORD = 16400, 40960
 
 
 def read(content):
@@ -83,14 +83,14 @@ class Pages:
         self._call(SYNDROME, number, expect, [q, k], [read(table), read(page), lent(syndrome_len, number, s)])
 
     def decode(self, q, k, table, page, thresholds, lengths=None, expect=None):
-        """`lengths` are those of result, syndrome and difference. Returns what the decode gave."""
-        lengths = (k, k, k) if lengths is None else lengths
+        """`lengths` are those of result, syndrome, difference and margins. Returns what the decode gave."""
+        lengths = ref.decode_lengths(k) if lengths is None else lengths
         number, got = ref.decode(q, k, table, page, thresholds, *lengths)
-        counts = None if number else struct.pack("<4I", *got.counts)
-        written = (None,) * 3 if number else got[:3]
-        answers = [lent(length, number, content) for length, content in zip(lengths, written)]
-        self._call(DECODE, number, expect, [q, k],
-                   [read(table), read(page), read(thresholds), *answers, lent(16, number, counts)])
+        written = [None] * 5
+        if number == 0:
+            written = [*got[:3], struct.pack(f"<{k}i", *got.margins), struct.pack("<4I", *got.counts)]
+        answers = [lent(length, number, content) for length, content in zip((*lengths, 16), written)]
+        self._call(DECODE, number, expect, [q, k], [read(table), read(page), read(thresholds), *answers])
         return got
 
     def every_call(self, q, k, table, expect=None):

@@ -1,4 +1,4 @@
-"""The page code and its decoder, as document 01 states them: clear rather than fast.
+"""The page code and its decoder, as documents 01 and 02 (request N1) state them: clear rather than fast.
 
 Shares no code and no tables with the library. `check_table`, `encode`, `syndrome` and `decode` take what the C calls
 take, with the lengths of lent buffers in place of the buffers. They return the number and, at 0, what was written.
@@ -11,7 +11,7 @@ from collections import Counter, namedtuple
 ALL_PAIRS_K = 32
 
 Counts = namedtuple("Counts", "passes changes start end")
-Decoded = namedtuple("Decoded", "result syndrome difference counts changes_of_pass")
+Decoded = namedtuple("Decoded", "result syndrome difference margins counts changes_of_pass")
 
 
 # The code
@@ -117,9 +117,14 @@ def syndrome_tests(q, k, table, page, syndrome_len):
     ]
 
 
-def decode_tests(q, k, table, page, thresholds, result_len, syndrome_len, difference_len):
+def decode_lengths(k):
+    """The lengths of result, syndrome, difference and margins that fit; a margin has 4 bytes."""
+    return k, k, k, 4 * k
+
+
+def decode_tests(q, k, table, page, thresholds, *lengths):
     return table_tests(q, k, table) + [
-        (6, lambda: (len(page), result_len, syndrome_len, difference_len) != (2 * k, k, k, k)),
+        (6, lambda: len(page) != 2 * k or lengths != decode_lengths(k)),
         (7, lambda: bad_symbol(q, page)),
         (8, lambda: not 1 <= len(thresholds) <= 64),
         (9, lambda: any(t > 32 for t in thresholds)),
@@ -132,13 +137,24 @@ def first_that_applies(tests):
 
 # The decoder
 
-def lead(estimates):
+def estimates(k, positions, s, d, j):
+    """The J + 1 estimates of data symbol j: d at j, and s at each check of j."""
+    return [d[j]] + [s[i] for i in checks_of(k, positions, j)]
+
+
+def lead(values):
     """The commonest value h0 and m0 - m1, its lead over the other values. Of values tied for first place h0 is the
     smallest; the lead is then 0."""
-    votes = Counter(estimates)
+    votes = Counter(values)
     h0 = min(votes, key=lambda value: (-votes[value], value))
     m1 = max((count for value, count in votes.items() if value != h0), default=0)
     return h0, votes[h0] - m1
+
+
+def margin(values):
+    """The number of zeros minus the largest count of any one other value, 0 if there is none."""
+    others = Counter(value for value in values if value != 0)
+    return values.count(0) - max(others.values(), default=0)
 
 
 def run(q, k, positions, page, thresholds):
@@ -151,8 +167,8 @@ def run(q, k, positions, page, thresholds):
         changes = 0
         for j in range(k):
             checks = checks_of(k, positions, j)
-            h0, margin = lead([d[j]] + [s[i] for i in checks])
-            if margin > threshold and h0 != 0:
+            h0, ahead = lead(estimates(k, positions, s, d, j))
+            if ahead > threshold and h0 != 0:
                 result[j] = (result[j] - h0) % q
                 d[j] = (d[j] - h0) % q
                 for i in checks:
@@ -184,14 +200,15 @@ def syndrome(q, k, table, page, syndrome_len):
     return 0, syndrome_of(q, k, positions_of(table), page)
 
 
-def decode(q, k, table, page, thresholds, result_len, syndrome_len, difference_len):
-    number = first_that_applies(
-        decode_tests(q, k, table, page, thresholds, result_len, syndrome_len, difference_len))
+def decode(q, k, table, page, thresholds, *lengths):
+    """`lengths` are those of result, syndrome, difference and margins."""
+    number = first_that_applies(decode_tests(q, k, table, page, thresholds, *lengths))
     if number:
         return number, None
     positions = positions_of(table)
     page = list(page)
     result, s, d, changes_of_pass = run(q, k, positions, page, thresholds)
+    margins = [margin(estimates(k, positions, s, d, j)) for j in range(k)]
     counts = Counts(
         passes=len(changes_of_pass),
         changes=sum(changes_of_pass),
@@ -203,7 +220,11 @@ def decode(q, k, table, page, thresholds, result_len, syndrome_len, difference_l
     assert s == [(a - b) % q for a, b in zip(code_word(q, k, positions, result)[k:], page[k:])]
     assert counts.end == sum(x != 0 for x in s + d)
     assert counts.end + sum(n * (t + 1) for n, t in zip(changes_of_pass, thresholds)) <= counts.start
-    return 0, Decoded(result, s, d, counts, changes_of_pass)
+    # What N1 says of every margin, and where it is J + 1.
+    most = len(positions) + 1
+    assert all(-most <= m <= most for m in margins)
+    assert all((m == most) == (not any(estimates(k, positions, s, d, j))) for j, m in enumerate(margins))
+    return 0, Decoded(result, s, d, margins, counts, changes_of_pass)
 
 
 # The worked cases of document 01
@@ -222,11 +243,11 @@ def page_a(data={}, checks={}):
 
 
 def decode_a(q, page, thresholds):
-    return decode(q, 13, CODE_A, page, thresholds, 13, 13, 13)
+    return decode(q, 13, CODE_A, page, thresholds, *decode_lengths(13))
 
 
 def self_check():
-    """Cases 1 to 14 in turn, by the numbers that document 01 states."""
+    """Cases 1 to 14 in turn, by the numbers that document 01 states, then margins worked out by hand."""
     # 1, 2
     assert check_table(256, 13, CODE_A) == 0
     assert check_table(256, 12, CODE_A) == 5
@@ -251,7 +272,7 @@ def self_check():
     ]:
         number, got = decode_a(256, page, thresholds)
         assert number == 0
-        assert got[:4] == (symbols(13, result), symbols(13, s), symbols(13, d), counts)
+        assert got[:3] == (symbols(13, result), symbols(13, s), symbols(13, d)) and got.counts == counts
     # 11
     assert [check_table(q, 13, CODE_A) for q in (2, 3, 256, 257)] == [1, 0, 0, 1]
     # 12
@@ -263,9 +284,19 @@ def self_check():
     assert [decode_a(5, page_a(), [t])[0] for t in (32, 33)] == [0, 9]
     assert decode_a(5, page_a({3: 5}), [])[0] == 7
     # 14
-    h0, margin = lead([2, 2, 1, 1, 0])
-    assert margin == 0
+    h0, ahead = lead([2, 2, 1, 1, 0])
+    assert ahead == 0
     assert lead([7, 7, 0, 9, 1]) == (7, 1)
+    # N1: a list of estimates by itself, then the pages of cases 6, 7 and 8
+    for values, due in (([0] * 5, 5), ([7] * 5, -5), ([0, 0, 0, 0, 1], 3), ([1, 2, 3, 4, 5], -1), ([9, 9, 9, 9, 4], -4),
+                        ([0, 0, 3, 3, 8], 0), ([0, 0, 0, 3, 8], 2), ([0, 1], 0), ([1, 1], -2)):
+        assert margin(values) == due
+    # 6: d(0) alone is not 0. 7: all four checks of symbol 0 are 7, and each other symbol has one of them. 8: s(2) alone is
+    # not 0, and check 2 is one of symbols 2, 1, 11 and 9.
+    for page, thresholds, margins in ((page_a({0: 7}), [2, 2], [3] + [5] * 12),
+                                      (page_a({0: 7}), [3, 2], [-3] + [3] * 12),
+                                      (page_a({}, {2: 9}), [0], [3 if j in (1, 2, 9, 11) else 5 for j in range(13)])):
+        assert decode_a(256, page, thresholds)[1].margins == margins
     # The two tests of self-orthogonality are one.
     for k in range(1, 15):
         for bits in range(1, 2 ** k):

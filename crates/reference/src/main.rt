@@ -5,11 +5,15 @@ ghost use mathlib.Core.Path.{_≡_};
 ghost use Prim.Native.Nat.{_≤_};
 ghost use lib.ListN.{length};
 
-// What memory lent for an answer holds before a call.
+// What memory lent for an answer holds before a call, and what lent margins hold, which no margin is.
 const FILL: u8 = 165;
 
-// The most memory that a call is lent for one answer.
+const FILL_MARGIN: i32 = 99;
+
+// The most memory that a call is lent for one answer, and the most margins.
 const MOST: usize = 8300;
+
+const MOST_MARGINS: usize = 4100;
 
 fn print(text: &[u8]) {
     io::write_all(libc::STDOUT_FILENO, text);
@@ -32,6 +36,14 @@ fn number_at(bytes: &[u8], at: usize) -> u32 {
         return 0;
     }
     number_of(bytes[at], bytes[at + 1], bytes[at + 2], bytes[at + 3])
+}
+
+// The signed number that has these 32 bits in two's complement.
+fn signed(bits: u32) -> i32 {
+    if bits < 2147483648 {
+        return bits as i32;
+    }
+    -1 - ((4294967295 - bits) as i32)
 }
 
 // The place so many bytes on; no place of a record, usize::MAX, where that is past the end.
@@ -103,6 +115,14 @@ impl Piece {
         if self.len < MOST { self.len } else { MOST }
     }
 
+    // How many margins are lent, 4 bytes each in the record.
+    fn margins(self) -> usize
+        ensures { λ r. ⌜ r ≤ 4100 ⌝ }
+    {
+        let n = self.len / 4;
+        if n < MOST_MARGINS { n } else { MOST_MARGINS }
+    }
+
     // How many positions a table has.
     fn positions(self) -> usize
         ensures { λ r. ⌜ r ≤ 40 ⌝ }
@@ -125,6 +145,29 @@ impl Piece {
         }
         self.gives == 0 && is_filled(lent)
     }
+
+    // A margin after the call: as the record gives it at a place, or else as it was.
+    fn due_margin(self, record: &[u8], at: usize) -> i32 {
+        if self.gives == 2 {
+            return signed(number_at(record, at));
+        }
+        FILL_MARGIN
+    }
+
+    // Lent margins after the call.
+    fn margins_are_due(self, record: &[u8], margins: &[i32]) -> bool {
+        let n = margins.len();
+        let mut at = self.at;
+        let mut i = 0;
+        while i < n {
+            if margins[i] != self.due_margin(record, at) {
+                return false;
+            }
+            at = skip(record, at, 4);
+            i += 1;
+        }
+        self.len % 4 == 0 && self.len / 4 == n
+    }
 }
 
 // Memory to lend for an answer.
@@ -132,6 +175,12 @@ fn filled() -> [u8; MOST]
     ensures { λ r. ⌜ 8300 ≡ length r ⌝ }
 {
     [FILL; MOST]
+}
+
+fn filled_margins() -> [i32; MOST_MARGINS]
+    ensures { λ r. ⌜ 4100 ≡ length r ⌝ }
+{
+    [FILL_MARGIN; MOST_MARGINS]
 }
 
 // A buffer that no call has written.
@@ -242,13 +291,15 @@ fn decode_with(
     first: &mut [u8],
     second: &mut [u8],
     third: &mut [u8],
+    fourth: &mut [i32],
 ) -> bool {
     let table = Piece::first(record);
     let page = table.next(record);
     let result = thresholds.next(record);
     let syndrome = result.next(record);
     let difference = syndrome.next(record);
-    let counts = difference.next(record);
+    let margins = difference.next(record);
+    let counts = margins.next(record);
     let positions = read_positions(table.content(record));
     let j = table.positions();
     let got = decoder::decode(
@@ -260,13 +311,15 @@ fn decode_with(
         first,
         second,
         third,
+        fourth,
     );
     got.number == returned(record)
         && result.is_due(record, first)
         && syndrome.is_due(record, second)
         && difference.is_due(record, third)
+        && margins.margins_are_due(record, fourth)
         && counts_are_due(got, record, counts)
-        && is_whole(record, 7, counts)
+        && is_whole(record, 8, counts)
 }
 
 fn decode_is_right(record: &[u8]) -> bool {
@@ -274,18 +327,22 @@ fn decode_is_right(record: &[u8]) -> bool {
     let result = thresholds.next(record);
     let syndrome = result.next(record);
     let difference = syndrome.next(record);
+    let margins = difference.next(record);
     let mut first = filled();
     let mut second = filled();
     let mut third = filled();
+    let mut fourth = filled_margins();
     let a = result.lent();
     let b = syndrome.lent();
     let c = difference.lent();
+    let d = margins.margins();
     decode_with(
         record,
         thresholds,
         &mut first[0..a],
         &mut second[0..b],
         &mut third[0..c],
+        &mut fourth[0..d],
     )
 }
 
@@ -396,9 +453,9 @@ fn run_next(fd: i32, group: Group) -> Group {
     if got != 4 {
         return cut_off(group);
     }
-    let mut record = [0u8; 32768];
+    let mut record = [0u8; 40960];
     let n = number_at(&length, 0) as usize;
-    if 32768 < n {
+    if 40960 < n {
         return cut_off(group);
     }
     read_and_run(fd, group, &mut record[0..n])

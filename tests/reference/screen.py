@@ -1,0 +1,63 @@
+"""What examples/screen.c prints where it prints no colours, by the reference program: the same data, damage and layout,
+but the code word, the decode and the margins are those of reference.py."""
+
+import reference as ref
+
+Q, K, POSITIONS = 256, 256, [0, 1, 3, 7]
+THRESHOLDS = [1] + [0] * 7
+REPLACED = 80
+AT_EMPTY = [0, 0, 4, 8, 16, 24, 32, 40, 40, 40, 36, 32, 24, 16, 8, 0]
+
+FIRM, DOUBTFUL, WEAK = range(3)
+SHOWN = [(" ", "firm", "margin above J/2"), ("?", "doubtful", "margin 1 to J/2"), ("!", "weak", "margin 0 or less")]
+
+
+def standing(margin):
+    if margin > len(POSITIONS) // 2:
+        return FIRM
+    return DOUBTFUL if margin > 0 else WEAK
+
+
+def draws():
+    """A function that gives the next number below another."""
+    state = 1
+
+    def draw(below):
+        nonlocal state
+        state = (state * 1664525 + 1013904223) % 2 ** 32
+        return (state >> 16) % below
+    return draw
+
+
+def damaged(page):
+    draw, hit = draws(), set()
+    page = list(page)
+    while len(hit) < REPLACED:
+        place = draw(2 * K)
+        if place not in hit:
+            hit.add(place)
+            page[place] = (page[place] + 1 + draw(Q - 1)) % Q
+    return page
+
+
+def content():
+    """The text, as bytes."""
+    sent = [AT_EMPTY[j // 16] * (16 - j % 16) // 16 for j in range(K)]
+    page = damaged(ref.code_word(Q, K, POSITIONS, sent))
+    number, got = ref.decode(Q, K, ref.table_of(POSITIONS), page, THRESHOLDS, *ref.decode_lengths(K))
+    assert number == 0
+    stands = [standing(margin) for margin in got.margins]
+
+    lines = ["Allowed current in ampere, a row for each temperature, charge 0/16 to 15/16:"]
+    for row in range(16):
+        symbols = range(16 * row, 16 * row + 16)
+        lines.append(f"{5 * row - 20:4} C " + "".join(f"{got.result[j]:3}{SHOWN[stands[j]][0]}" for j in symbols))
+    j = len(POSITIONS)
+    lines.append(f"J is {j}: a margin can be {-j - 1} to {j + 1}.")
+    for each, (mark, name, margin) in enumerate(SHOWN):
+        those = [i for i in range(K) if stands[i] == each]
+        wrong = sum(got.result[i] != sent[i] for i in those)
+        lines.append(f"{mark} {name:8}  {margin:16}  {len(those):3} symbols, {wrong} not as sent")
+    lines.append(f"{REPLACED} symbols replaced; passes {got.counts.passes}, changes {got.counts.changes}, "
+                 f"distance {got.counts.start} at the start, {got.counts.end} at the end")
+    return "".join(line + "\n" for line in lines).encode()
