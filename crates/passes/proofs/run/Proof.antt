@@ -1,4 +1,4 @@
--- `passes::run` meets its contract: either buffer has a front of k bytes.
+-- `run`: a buffer of 128 or of 4,096 zeros has a front of k bytes, as `run_with` requires.
 use borrow.Author.Needs.{needs}
 use mathlib.Core.Path.{_≡_, sym}
 use Prim.Native.Nat.{ℕ, _≤_}
