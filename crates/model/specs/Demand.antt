@@ -11,7 +11,7 @@ use Rattle.model.specs.Calls.{encodeAnswer}
 
 -- ---- the first half
 
--- one visit, from the state that it gets, and a distance d: "each change lowers the distance .. by more than its pass's threshold, and every other visit leaves it"
+-- one visit, from the state that it gets, and a distance d; demand 3: each change lowers the distance by more than its pass's threshold, and every other visit leaves it
 pub record VisitFalls (q : ℕ) (checks : ℕ → List ℕ) (d : State → ℕ) (v : Visit) (st : State) : Type 0 where
   pub lowered : changes checks v st ≡ true → d (visit q checks v st) + v .threshold < d st
   pub left : changes checks v st ≡ false → visit q checks v st ≡ st
@@ -44,7 +44,7 @@ pub record DecodeFalls (c : Code) (thresholds page : List ℕ) (counts : Counts)
 abbrev pub Encodes : Code → List ℕ → List ℕ → Type 0
 Encodes c u sent = (encodeAnswer c u (pageLength c) ≡ 0) × (sent ≡ codeWord c u)
 
--- t replaced symbols and a threshold: "2t plus the first pass's threshold is at most J"
+-- t replaced symbols and a threshold; demand 3: 2t plus the first pass's threshold is at most J
 abbrev pub WithinBound : Code → ℕ → ℕ → Type 0
 WithinBound c t threshold = t + t + threshold ≤ checksEach c
 
@@ -54,6 +54,6 @@ abbrev pub Recovers : Code → ℕ → List ℕ → List ℕ → Type 0
 Recovers c threshold page result =
     (u sent : List ℕ) (t : ℕ) → Encodes c u sent → distance sent page ≤ t → WithinBound c t threshold → result ≡ dataOf c sent
 
--- of a decode: by "the first pass's threshold"
+-- of a decode; demand 3: by the first pass's threshold
 abbrev pub DecodeRecovers : Code → List ℕ → List ℕ → List ℕ → Type 0
 DecodeRecovers c thresholds page result = Recovers c (getD thresholds 0 0) page result

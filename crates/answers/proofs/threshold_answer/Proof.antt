@@ -1,4 +1,4 @@
--- `threshold_answer` walks tests 8 and 9.
+-- `threshold_answer`: a return names the tests passed on the way to it, 8 before 9.
 use borrow.Author.Needs.{needs}
 use borrow.Author.Tests.{not-true, not-false}
 use mathlib.Core.Path.{sym, _∙_}

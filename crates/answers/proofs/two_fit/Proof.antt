@@ -1,4 +1,4 @@
--- `two_fit` is the two comparisons, the second where the first holds.
+-- `two_fit`: where the lengths of the first pair differ the answer is false, else it is the second comparison.
 use borrow.Author.Tests.{eq-eqb, ne-eqb}
 use Rattle.answers.proofs.two_fit.Statement.{statement}
 use Rattle.answers.proofs.two_fit.Tie as tie

@@ -1,5 +1,4 @@
--- `cases::print_changes` is safe and ends. The measure is how many thresholds are left.
--- Assumes nothing.
+-- `print_changes`: t rises to the limit, and the thresholds left are the measure.
 use Prim.Native.Nat.{_-_}
 use borrow.Author.Needs.{needs}
 use Rattle.cases.proofs.print_changes.Statement.{statement}

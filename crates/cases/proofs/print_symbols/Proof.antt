@@ -1,5 +1,4 @@
--- `cases::print_symbols` is safe and ends. The measure is what is left of the symbols.
--- Assumes nothing.
+-- `print_symbols`: i rises to the length, and the symbols left are the measure.
 use Prim.Native.Nat.{_-_}
 use borrow.Author.Needs.{needs}
 use lib.ListN.{length}

@@ -1,4 +1,4 @@
--- `checks::count_at` meets its contract. The invariant: n counts v at the checks of the positions passed.
+-- `count_at`: n counts v at the checks by the first i positions; at the end these are all checks of j.
 use mathlib.Core.Path.{_≡_, _∙_, ap, sym}
 use mathlib.Core.List.{List}
 use Prim.Native.Nat.{ℕ, _≤_, _-_, _%_, _+_}

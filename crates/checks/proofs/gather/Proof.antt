@@ -1,4 +1,4 @@
--- `checks::gather` meets its contract. The invariant: the first i + 1 estimates are written.
+-- `gather`: the first i + 1 estimates are written: the own difference, and the syndrome at the checks by the first i positions.
 use mathlib.Core.Path.{_≡_, _∙_, ap, sym}
 use mathlib.Core.List.{List, _∷_}
 use Prim.Native.Nat.{ℕ, _≤_, _-_, _+_}

@@ -1,4 +1,4 @@
--- `checks::subtract_at` meets its contract. The invariant: h is subtracted at the checks of the positions passed.
+-- `subtract_at`: h is subtracted at the checks by the first i positions; at the end these are all checks of j.
 use mathlib.Core.Path.{_∙_, ap, refl}
 use Prim.Native.Nat.{ℕ, _-_}
 use native.Mathlib.Omega.{arith}

@@ -1,4 +1,4 @@
--- `checks::wrapped` meets its contract: the remainder of a number below 2 k.
+-- `wrapped`: a number below k is its own remainder, and one below 2 k has k taken off once.
 use mathlib.Core.Path.{sym, _∙_}
 use native.Mathlib.Nat.{mod-eq-of-lt, mod-eq-sub-mod}
 use native.Mathlib.Omega.{arith}

@@ -1,4 +1,4 @@
--- `decoder::state_weight` meets its contract.
+-- `state_weight`: the two weights are at most 4,096 each, so their sum does not overflow.
 use borrow.Author.Needs.{needs}
 use native.Mathlib.Omega.{arith}
 use Rattle.decoder.specs.Decodes.{weights-small}

@@ -1,4 +1,4 @@
--- `octets::put_counts` meets its contract: the four runs of stores are one.
+-- `put_counts`: four numbers of four bytes, written one after the other, are the 16 bytes of the counts.
 use borrow.Author.Needs.{needs}
 use mathlib.Core.Path.{_∙_, ap}
 use mathlib.Core.List.{List}

@@ -1,4 +1,4 @@
--- `octets::put_word` meets its contract.
+-- `put_word`: the four stores, in order, are one store of the number's four bytes.
 use native.Mathlib.Omega.{arith}
 use native.Mathlib.Numerals.{towards-suc}
 use lib.ListN.{length-set}

@@ -1,4 +1,4 @@
--- `octets::read_positions` meets its contract: of the bytes read so far, the complete positions are stored, and the last byte is kept.
+-- `read_positions`: of the first i bytes the complete positions are stored, and the last byte is kept.
 use mathlib.Core.Path.{_≡_, refl, ap, _∙_}
 use Prim.Native.Nat.{ℕ, _+_, _≤_, _<_, _-_, _/_}
 use native.Mathlib.Omega.{arith}

@@ -1,4 +1,4 @@
--- `page::add_rows` meets its contract: what the rows left at n make of the sums is what all make of them at the start.
+-- `add_rows`: what the rows left at n make of the sums is what all make of them at the start.
 use mathlib.Core.Path.{_≡_, refl, sym, ap, subst, _∙_}
 use mathlib.Core.List.{List}
 use Prim.Native.Nat.{ℕ, _+_, _≤_, _<_, _-_}

@@ -1,4 +1,4 @@
--- `passes::run` meets its contract: the zeros are counted, as `run_counted` requires.
+-- `run`: the zeros are counted first, as `run_counted` requires.
 use borrow.Author.Needs.{needs}
 use Rattle.visits.specs.Progress.{at-checks}
 use Rattle.passes.proofs.run.Statement.{statement}

@@ -1,5 +1,4 @@
--- `passes::run_counted` meets its contract. The inner invariant: the state is that after the first j visits of the pass.
--- The outer one: the passes that are left give what the whole run gives, with at most k changes a pass.
+-- `run_counted`: in a pass the state is that after its first j visits; between passes those left give what the whole run gives, with at most 4,096 changes a pass.
 use mathlib.Core.Path.{_≡_, refl, sym, _∙_, ap}
 use mathlib.Core.Logic.{⊎-elim}
 use mathlib.Core.List.{List, []}

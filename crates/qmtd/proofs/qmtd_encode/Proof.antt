@@ -1,4 +1,4 @@
--- `qmtd::qmtd_encode` meets its contract.
+-- `qmtd_encode`: the outcome by the positions read is that by the table's, and so is the code word.
 use mathlib.Core.Path.{sym, _∙_}
 use native.Mathlib.Omega.{arith}
 use lib.Seq.{length-take-le}

@@ -1,5 +1,4 @@
--- `reference::read_positions` is safe and ends. The array keeps its length; the measure is how many positions are left.
--- Assumes nothing.
+-- `read_positions`: the array keeps its length of 40, and the positions left are the measure.
 use mathlib.Core.Path.{_≡_}
 use Prim.Native.Nat.{_-_}
 use native.Mathlib.Omega.{arith}

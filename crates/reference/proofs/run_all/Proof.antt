@@ -1,5 +1,4 @@
--- `reference::run_all` is safe and ends. The measure is the number of turns that are left.
--- Assumes nothing.
+-- `run_all`: the turns left fall by one each time and are the measure.
 use borrow.Author.Needs.{needs}
 use Rattle.reference.proofs.run_all.Statement.{statement}
 use Rattle.reference.proofs.run_all.Tie as tie

@@ -1,4 +1,4 @@
--- `rows::add_row` meets its contract: each of its two runs adds a straight part of the row.
+-- `add_row`: each of its two runs adds a straight part of the row.
 use mathlib.Core.Path.{sym, _∙_}
 use Prim.Native.Nat.{ℕ, _-_}
 use native.Mathlib.Omega.{arith}

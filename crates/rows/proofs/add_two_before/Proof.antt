@@ -1,4 +1,4 @@
--- `rows::add_two_before` meets its contract: in each of its two runs both rows are straight.
+-- `add_two_before`: in each of its two runs both rows are straight.
 use mathlib.Core.Path.{sym}
 use Prim.Native.Nat.{_-_}
 use native.Mathlib.Omega.{arith}

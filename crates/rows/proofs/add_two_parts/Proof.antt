@@ -1,4 +1,4 @@
--- `rows::add_two_parts` meets its contract: a part of the data for each of the two rows, in one run.
+-- `add_two_parts`: a part of the data for each of the two rows, in one run.
 use mathlib.Core.Path.{_∙_}
 use Prim.Native.Nat.{_+_, _-_}
 use native.Mathlib.Omega.{arith}

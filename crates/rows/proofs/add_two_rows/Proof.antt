@@ -1,4 +1,4 @@
--- `rows::add_two_rows` meets its contract: from r on both rows are straight, and before r `add_two_before` adds them.
+-- `add_two_rows`: from r on both rows are straight, and before r `add_two_before` adds them.
 use mathlib.Core.Path.{sym}
 use Prim.Native.Nat.{_-_}
 use native.Mathlib.Omega.{arith}

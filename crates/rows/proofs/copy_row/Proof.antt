@@ -1,4 +1,4 @@
--- `rows::copy_row` meets its contract: each of its two runs copies a straight part of the row.
+-- `copy_row`: each of its two runs copies a straight part of the row.
 use mathlib.Core.Path.{sym, _∙_}
 use native.Mathlib.Omega.{arith}
 use lib.ListN.{length-take, length-drop}

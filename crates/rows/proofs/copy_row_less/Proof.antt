@@ -1,4 +1,4 @@
--- `rows::copy_row_less` meets its contract: each of its two runs writes a straight part of the row, less the list there.
+-- `copy_row_less`: each of its two runs writes a straight part of the row, less the list there.
 use mathlib.Core.Path.{sym, _∙_}
 use Prim.Native.Nat.{ℕ, _-_}
 use native.Mathlib.Omega.{arith}

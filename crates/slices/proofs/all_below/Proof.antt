@@ -1,4 +1,4 @@
--- `slices::all_below` meets its contract: the highest symbol tells, and from 256 on every byte is below.
+-- `all_below`: all symbols are below q where the highest is, and from q = 256 on every byte is.
 use mathlib.Core.Path.{sym, ap, _∙_}
 use Prim.Native.Nat.{ℕ}
 use native.Mathlib.Omega.{arith}

@@ -1,4 +1,4 @@
--- `slices::clear` meets its contract. The invariant: the symbols passed are written, the rest is as it was.
+-- `clear`: the first i symbols are 0, the rest is as it was; at the end all are 0.
 use Prim.Native.Nat.{_-_}
 use native.Mathlib.Omega.{arith}
 use lib.ListN.{length}

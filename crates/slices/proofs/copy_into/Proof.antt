@@ -1,4 +1,4 @@
--- `slices::copy_into` meets its contract. The invariant: the symbols passed are written, the rest is as it was.
+-- `copy_into`: the first i symbols are those of src, the rest is as it was; at the end all are those of src.
 use mathlib.Core.Path.{ap, _∙_}
 use Prim.Native.Nat.{ℕ, _-_}
 use native.Mathlib.Omega.{arith}

@@ -1,4 +1,4 @@
--- `slices::higher` meets its contract, by its two cases.
+-- `higher`: a below b or not, and the larger is max.
 use native.Mathlib.Omega.{arith}
 use Rattle.slices.proofs.higher.Statement.{statement}
 use Rattle.slices.proofs.higher.Tie as tie

@@ -1,4 +1,4 @@
--- `slices::highest_of` meets its contract. The invariant: top is the highest of the symbols passed.
+-- `highest_of`: top is the highest of the first i symbols, at the end of all.
 use mathlib.Core.Path.{_≡_, sym, ap, _∙_}
 use Prim.Native.Nat.{_≤_, _-_}
 use native.Mathlib.Omega.{arith}

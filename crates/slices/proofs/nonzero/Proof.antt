@@ -1,4 +1,4 @@
--- `slices::nonzero` meets its contract, by the two cases of `differ`.
+-- `nonzero`: the two cases of `differ` x 0.
 use native.Mathlib.Omega.{arith}
 use Rattle.theory.specs.Counting.{differ-no, differ-yes}
 use Rattle.slices.proofs.nonzero.Statement.{statement}

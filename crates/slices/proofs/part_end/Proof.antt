@@ -1,4 +1,4 @@
--- `slices::part_end` meets its contract: the part has a symbol and at most 224.
+-- `part_end`: a part is 224 symbols, or the rest where that is no more; it is not empty either way.
 use native.Mathlib.Omega.{arith}
 use borrow.Author.Needs.{needs}
 use Rattle.slices.proofs.part_end.Statement.{statement}

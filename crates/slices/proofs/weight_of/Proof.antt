@@ -1,4 +1,4 @@
--- `slices::weight_of` meets its contract. The invariant: n is the weight of the parts passed.
+-- `weight_of`: n is the weight of the first a symbols, and each part adds its own.
 use mathlib.Core.Path.{_≡_, sym, ap, _∙_}
 use Prim.Native.Nat.{_≤_, _-_}
 use native.Mathlib.Omega.{arith}

@@ -1,4 +1,4 @@
--- `slices::weight_of_part` meets its contract. The invariant: n is the weight of the symbols passed.
+-- `weight_of_part`: n is the weight of the first i symbols, at the end of all.
 use mathlib.Core.Path.{_≡_, sym, ap, _∙_}
 use Prim.Native.Nat.{_≤_, _-_}
 use native.Mathlib.Omega.{arith}

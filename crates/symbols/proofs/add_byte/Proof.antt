@@ -1,4 +1,4 @@
--- `symbols::add_byte` meets its contract: `wrapping_add_u8` adds modulo 256.
+-- `add_byte`: `wrapping_add_u8` adds modulo 256.
 use Rattle.model.specs.Symbols.{add}
 use borrow.Author.Needs.{needs}
 use Rattle.symbols.proofs.add_byte.Statement.{statement}

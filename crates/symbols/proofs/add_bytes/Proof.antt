@@ -1,4 +1,4 @@
--- `symbols::add_bytes` meets its contract. The invariant: the symbols passed are written, the rest is as it was.
+-- `add_bytes`: the first i symbols are sums, the rest is as it was; at the end all are sums.
 use borrow.Author.Needs.{needs}
 use Prim.Native.Nat.{_-_}
 use native.Mathlib.Omega.{arith}

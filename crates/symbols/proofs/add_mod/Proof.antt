@@ -1,4 +1,4 @@
--- `symbols::add_mod` meets its contract, by `wrapped-sum`: what is carried is taken off the wrapped sum.
+-- `add_mod`: the wrapped sum less what is carried is the sum modulo q, by `wrapped-sum`.
 use Rattle.symbols.specs.Sums.{wrapped-sum}
 use borrow.Author.Needs.{needs}
 use Rattle.symbols.proofs.add_mod.Statement.{statement}

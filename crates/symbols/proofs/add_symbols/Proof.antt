@@ -1,4 +1,4 @@
--- `symbols::add_symbols` meets its contract. The invariant: the symbols passed are written, the rest is as it was.
+-- `add_symbols`: the first i symbols are sums modulo top + 1, the rest is as it was; at the end all are sums.
 use Prim.Native.Nat.{_+_, _-_}
 use native.Mathlib.Omega.{arith}
 use lib.ListN.{length, getD}

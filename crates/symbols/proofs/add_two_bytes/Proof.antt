@@ -1,4 +1,4 @@
--- `symbols::add_two_bytes` meets its contract. The invariant: the symbols passed are written, the rest is as it was; one run is two sums, by `add-twice`.
+-- `add_two_bytes`: the first i symbols have both lists added, the rest is as it was; at the end that is two sums of lists, by `add-twice`.
 use borrow.Author.Needs.{needs}
 use mathlib.Core.Path.{ap, _∙_}
 use Prim.Native.Nat.{ℕ, _-_}

@@ -1,4 +1,4 @@
--- `symbols::add_two_symbols` meets its contract. The invariant: the symbols passed are written, the rest is as it was; one run is two sums, by `add-twice`.
+-- `add_two_symbols`: the first i symbols have both lists added modulo top + 1, the rest is as it was; at the end that is two sums of lists, by `add-twice`.
 use mathlib.Core.Path.{ap, _∙_}
 use Prim.Native.Nat.{ℕ, _+_, _-_}
 use native.Mathlib.Omega.{arith}

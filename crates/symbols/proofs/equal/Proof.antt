@@ -1,4 +1,4 @@
--- `symbols::equal` meets its contract, by the two cases of `same`.
+-- `equal`: the two cases of `same`.
 use mathlib.Core.Path.{sym}
 use native.Mathlib.Omega.{arith}
 use Rattle.theory.specs.Counting.{same-yes, same-no}

@@ -1,4 +1,4 @@
--- `symbols::sub_byte` meets its contract: `wrapping_sub_u8` subtracts modulo 256.
+-- `sub_byte`: `wrapping_sub_u8` subtracts modulo 256.
 use Rattle.model.specs.Symbols.{sub}
 use borrow.Author.Needs.{needs}
 use Rattle.symbols.proofs.sub_byte.Statement.{statement}

@@ -1,4 +1,4 @@
--- `symbols::sub_bytes` meets its contract. The invariant: the symbols passed are written, the rest is as it was.
+-- `sub_bytes`: the first i symbols are differences, the rest is as it was; at the end all are differences.
 use borrow.Author.Needs.{needs}
 use mathlib.Core.Path.{ap, _∙_}
 use Prim.Native.Nat.{ℕ, _-_}

@@ -1,4 +1,4 @@
--- `symbols::sub_mod` meets its contract, by its two cases: no borrow, or one of q.
+-- `sub_mod`: two cases, no borrow or a borrow of q.
 use native.Mathlib.Omega.{arith}
 use Rattle.theory.specs.Modulo.{sub-no-borrow, sub-borrow}
 use Prim.Native.Nat.{_+_}

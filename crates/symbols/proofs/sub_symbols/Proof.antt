@@ -1,4 +1,4 @@
--- `symbols::sub_symbols` meets its contract. The invariant: the symbols passed are written, the rest is as it was.
+-- `sub_symbols`: the first i symbols are differences modulo top + 1, the rest is as it was; at the end all are differences.
 use mathlib.Core.Path.{ap, _∙_}
 use Prim.Native.Nat.{ℕ, _+_, _-_}
 use native.Mathlib.Omega.{arith}

@@ -1,4 +1,4 @@
--- `is_half` tells whether v is half of k, by the two cases of `same`.
+-- `is_half`: the two cases of `same` (v + v) k.
 use Prim.Native.Nat.{_+_}
 use native.Mathlib.Omega.{arith}
 use Rattle.theory.specs.Counting.{same-yes, same-no}

@@ -1,4 +1,4 @@
--- `self_orthogonal` tests the differences with cleared flags, 33, 513 or 2049 of them.
+-- `self_orthogonal`: each of the three sizes of cleared flags reaches half of its k, and the differences are all different where the table is self-orthogonal.
 use native.Mathlib.Omega.{arith}
 use Rattle.theory.specs.Parts.{cleared}
 use Rattle.table.specs.Table.{orthogonal-told}

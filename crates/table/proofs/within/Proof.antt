@@ -1,4 +1,4 @@
--- `within` is the two comparisons of its definition.
+-- `within`: below low it is false, from low on it is the comparison with high.
 use mathlib.Core.Path.{sym}
 use native.Mathlib.Omega.{arith}
 use borrow.Author.Tests.{le-leb}

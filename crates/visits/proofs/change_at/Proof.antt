@@ -1,4 +1,4 @@
--- `visits::change_at` meets its contract: what its two parts leave, put together.
+-- `change_at`: the change is what its two subtractions leave, put together.
 use borrow.Author.Needs.{needs}
 use native.Mathlib.Omega.{arith}
 use Rattle.visits.specs.Progress.{at-checks, ready-symbol, changed-state}

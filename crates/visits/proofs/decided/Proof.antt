@@ -1,4 +1,4 @@
--- `visits::decided` meets its contract: the quick test and the vote each settle what is subtracted.
+-- `decided`: the quick test and the vote each settle what is subtracted.
 use borrow.Author.Needs.{needs}
 use borrow.Author.Tests.{not-true}
 use mathlib.Core.Path.{sym, ap, subst, _∙_}

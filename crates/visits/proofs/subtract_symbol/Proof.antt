@@ -1,4 +1,4 @@
--- `visits::subtract_symbol` meets its contract: at each of the two places the difference modulo q is written.
+-- `subtract_symbol`: at each of the two places the difference modulo q is written.
 use borrow.Author.Needs.{needs}
 use mathlib.Core.Path.{_∙_, ap}
 use mathlib.Core.List.{List}

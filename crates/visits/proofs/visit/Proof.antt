@@ -1,4 +1,4 @@
--- `visits::visit` meets its contract: the state is left where nothing is to subtract, and changed by h otherwise.
+-- `visit`: the state is left where nothing is to subtract, and changed by h otherwise.
 use borrow.Author.Needs.{needs}
 use mathlib.Core.Path.{sym, _∙_, ap}
 use mathlib.Core.List.{List}

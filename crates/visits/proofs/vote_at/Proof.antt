@@ -1,4 +1,4 @@
--- `visits::vote_at` meets its contract: the part of the buffer that is voted on holds the estimates.
+-- `vote_at`: the part of the buffer that is voted on holds the estimates.
 use borrow.Author.Needs.{needs}
 use mathlib.Core.Path.{refl, sym, _∙_, ap}
 use mathlib.Core.List.{List, _++_}

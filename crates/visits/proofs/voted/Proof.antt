@@ -1,4 +1,4 @@
--- `visits::voted` meets its contract: where the zeros settle it nothing is subtracted, else the vote tells.
+-- `voted`: where the zeros settle it nothing is subtracted, else the vote tells.
 use borrow.Author.Needs.{needs}
 use mathlib.Core.Path.{_≡_}
 use Prim.Native.Nat.{_+_, _≤_}

@@ -1,4 +1,4 @@
--- `vote::count_equal` meets its contract. The invariant: n counts v among the estimates passed.
+-- `count_equal`: n counts v among the first i estimates, at the end among all.
 use mathlib.Core.Path.{_≡_, _∙_, ap}
 use mathlib.Core.List.{List}
 use Prim.Native.Nat.{ℕ, _≤_, _-_}

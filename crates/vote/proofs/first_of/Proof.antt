@@ -1,4 +1,4 @@
--- `vote::first_of` meets its contract: each return settles which of the two goes before the other.
+-- `first_of`: each return settles which of the two goes before the other.
 use mathlib.Core.Path.{ap, sym}
 use Prim.Native.Nat.{ℕ}
 use native.Mathlib.Omega.{arith}

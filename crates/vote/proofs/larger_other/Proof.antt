@@ -1,4 +1,4 @@
--- `vote::larger_other` meets its contract, by whether the candidate is h.
+-- `larger_other`: a candidate that is h counts 0, any other its count.
 use native.Mathlib.Omega.{arith}
 use borrow.Author.Tests.{eq-eqb, ne-eqb}
 use borrow.Author.Needs.{needs}

@@ -1,4 +1,4 @@
--- `vote::lead_above` meets its contract. The invariant: the counters are those of the estimates passed, and none is above the bound.
+-- `lead_above`: the counters are those of the first i estimates, and none is above the bound.
 use Prim.Native.Nat.{_≤_, _-_}
 use native.Mathlib.Omega.{arith}
 use lib.ListN.{length, getD}

@@ -1,4 +1,4 @@
--- `vote::leader_of` meets its contract. The invariant: best is the first of the candidates passed, with its count.
+-- `leader_of`: best is the first of the first i candidates, with its count; at the end it is the leader.
 use mathlib.Core.Path.{_≡_, refl, sym, _∙_, ap}
 use mathlib.Core.List.{List}
 use Prim.Native.Nat.{ℕ, _≤_, _-_}

@@ -1,4 +1,4 @@
--- `vote::next_count` meets its contract. The invariant: m is the largest count of a candidate passed other than h.
+-- `next_count`: m is the largest count of a candidate other than h among the first i; at the end among all.
 use mathlib.Core.Path.{_≡_, refl, _∙_, ap}
 use mathlib.Core.List.{List}
 use Prim.Native.Nat.{ℕ, _≤_, _-_}

@@ -1,4 +1,4 @@
--- `vote::vote_over` meets its contract: what its callees ensure, put together.
+-- `vote_over`: the vote is what its three callees ensure, put together.
 use mathlib.Core.Path.{refl}
 use borrow.Author.Needs.{needs}
 use Rattle.model.specs.Vote.{leadCount, nextCount}

@@ -1,4 +1,4 @@
--- `zeros::add_zeros` meets its contract. The invariant: the symbols passed are written, the rest is as it was.
+-- `add_zeros`: the first i counts have the zeros of src added, the rest is as it was; at the end all have.
 use Prim.Native.Nat.{_+_, _-_}
 use native.Mathlib.Omega.{arith}
 use borrow.Author.Needs.{needs}

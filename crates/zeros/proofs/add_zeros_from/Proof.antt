@@ -1,4 +1,4 @@
--- `zeros::add_zeros_from` meets its contract, by its two runs.
+-- `add_zeros_from`: its two runs are the data symbols whose check wraps and those whose check does not, and together all.
 use mathlib.Core.Path.{sym, _∙_}
 use Prim.Native.Nat.{ℕ, _-_}
 use native.Mathlib.Omega.{arith}

@@ -1,4 +1,4 @@
--- `zeros::count_zeros` meets its contract. The invariant: the zeros at the checks of the positions passed are counted.
+-- `count_zeros`: the zeros at the checks by the first i positions are counted, at the end at all checks.
 use mathlib.Core.Path.{_≡_, ap, sym, _∙_}
 use mathlib.Core.List.{List}
 use Prim.Native.Nat.{ℕ, _≤_, _-_}

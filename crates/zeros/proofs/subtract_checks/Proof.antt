@@ -1,4 +1,4 @@
--- `zeros::subtract_checks` meets its contract. The invariant: h is subtracted at the checks of the positions passed, and the zeros are counted.
+-- `subtract_checks`: h is subtracted at the checks by the first i positions, and the zeros are counted as the syndrome then stands.
 use mathlib.Core.Path.{_≡_, _∙_, ap, sym}
 use Prim.Native.Nat.{ℕ, _-_}
 use native.Mathlib.Omega.{arith}

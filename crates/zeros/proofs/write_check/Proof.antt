@@ -1,4 +1,4 @@
--- `zeros::write_check` meets its contract. The invariant: the counts of the data symbols in check c by the positions passed have gained and lost.
+-- `write_check`: the counts of the data symbols that have check c by the first i positions have gained and lost; at the end these are all that have it.
 use mathlib.Core.Path.{refl}
 use Prim.Native.Nat.{_-_}
 use native.Mathlib.Omega.{arith}
