@@ -178,17 +178,20 @@ fn decode_into(
     if got.number != 0 {
         return got;
     }
-    let tally = got.tally;
+    let counts = got.tally;
     margins::fill(
         code,
         positions,
-        tally.end,
+        counts.end,
         zeros,
         syndrome,
         difference,
         margins,
     );
-    Decoded { number: 0, tally }
+    Decoded {
+        number: 0,
+        tally: counts,
+    }
 }
 
 // Decodes a received page into the result, S and D, and fills the margins from these. A small code clears a small buffer for the zeros.

@@ -73,10 +73,10 @@ pub fn write_firm(n: u8, margins: &mut [i32])
     requires { ⌜ n ≤ 33 ⌝ }
     ensures { λ _. ⌜ now (margins .exit) ≡ map (λ j. pos n -ℤ pos 0) (tabulate (length (now (margins .entry))) (λ j. j)) ⌝ }
 {
-    let mut j = 0;
-    while j < margins.len() {
-        margins[j] = margin_of(n, 0);
-        j += 1;
+    let mut i = 0;
+    while i < margins.len() {
+        margins[i] = margin_of(n, 0);
+        i += 1;
     }
 }
 

@@ -103,10 +103,10 @@ fn write_firm(n: u32, count: usize, out: &mut [u8])
     requires { ⌜ (count ≤ 4096) × (length (now out) ≡ 4 * count) ⌝ }
     ensures { λ _. ⌜ now (out .exit) ≡ marginBytes (map (λ j. pos n -ℤ pos 0) (tabulate count (λ j. j))) ⌝ }
 {
-    let mut j = 0;
-    while j < count {
-        put_word(out, 4 * j, n);
-        j += 1;
+    let mut i = 0;
+    while i < count {
+        put_word(out, 4 * i, n);
+        i += 1;
     }
 }
 

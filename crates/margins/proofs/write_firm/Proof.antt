@@ -1,4 +1,4 @@
--- `write_firm`: the first j margins are written, and so all.
+-- `write_firm`: the first i margins are written, and so all.
 use mathlib.Core.Path.{_∙_}
 use Prim.Native.Nat.{_-_}
 use native.Mathlib.Omega.{arith}
@@ -9,10 +9,10 @@ use Rattle.margins.proofs.write_firm.Statement.{statement}
 use Rattle.margins.proofs.write_firm.Tie as tie
 
 abbrev Inv-loop : tie.InvT-loop
-Inv-loop n margins₀ j₀ margins j = Front (λ i. pos n -ℤ pos 0) margins₀ margins j
+Inv-loop n margins₀ i₀ margins i = Front (λ l. pos n -ℤ pos 0) margins₀ margins i
 
 abbrev μ-loop : tie.MeasureT-loop
-μ-loop n margins₀ j₀ margins j = length margins - j
+μ-loop n margins₀ i₀ margins i = length margins - i
 
 loop-holds : tie.Need-loop-holds Inv-loop μ-loop
 loop-holds c = front-none _ _
@@ -26,8 +26,8 @@ mul-t4 c = omega arith
 slice-set-from-margins : tie.Need-slice-set-from-margins Inv-loop μ-loop
 slice-set-from-margins c = omega arith
 
-add-j : tie.Need-add-j Inv-loop μ-loop
-add-j c = omega arith
+add-i : tie.Need-add-i Inv-loop μ-loop
+add-i c = omega arith
 
 loop-less : tie.Need-loop-less Inv-loop μ-loop
 loop-less c = simp length-set (omega arith)
@@ -51,7 +51,7 @@ write-firm-spec =
     margin-of-requires
     mul-t4
     slice-set-from-margins
-    add-j
+    add-i
     loop-less
     loop-again
     same-length

@@ -1,4 +1,4 @@
--- `write_firm`: the bytes of the first j margins are written, and so all.
+-- `write_firm`: the bytes of the first i margins are written, and so all.
 use mathlib.Core.Path.{sym, ap}
 use Prim.Native.Nat.{_-_}
 use native.Mathlib.Omega.{arith}
@@ -11,10 +11,10 @@ use Rattle.octets.proofs.write_firm.Statement.{statement}
 use Rattle.octets.proofs.write_firm.Tie as tie
 
 abbrev Inv-loop : tie.InvT-loop
-Inv-loop n count out₀ j₀ out j = Front (λ i. pos n -ℤ pos 0) count out j
+Inv-loop n count out₀ i₀ out i = Front (λ l. pos n -ℤ pos 0) count out i
 
 abbrev μ-loop : tie.MeasureT-loop
-μ-loop n count out₀ j₀ out j = count - j
+μ-loop n count out₀ i₀ out i = count - i
 
 loop-holds : tie.Need-loop-holds Inv-loop μ-loop
 loop-holds c = front-none _ _ _ (c .before .pre .1)
@@ -25,8 +25,8 @@ mul-put-word c = let l = c .before .before in omega (arith, l .before .before .p
 put-word-requires : tie.Need-put-word-requires Inv-loop μ-loop
 put-word-requires c κs = let l = c .before .before in omega (arith, l .loop .inv .len)
 
-add-j : tie.Need-add-j Inv-loop μ-loop
-add-j c = omega arith
+add-i : tie.Need-add-i Inv-loop μ-loop
+add-i c = omega arith
 
 loop-less : tie.Need-loop-less Inv-loop μ-loop
 loop-less c = omega arith
@@ -52,7 +52,7 @@ write-firm-spec =
     loop-holds
     mul-put-word
     put-word-requires
-    add-j
+    add-i
     loop-less
     loop-again
     same-length
