@@ -1,4 +1,4 @@
--- A symbol's margin by its zeros and the vote, margins written from the front, and the margins of a state in which S and D are 0.
+-- A symbol's margin by its zeros, margins written from the front, and the margins of a state in which S and D are 0.
 use mathlib.Core.Path.{_≡_, refl, ap, sym, _∙_}
 use mathlib.Core.Logic.{_≢_}
 use mathlib.Core.List.{List, [], _∷_, _++_, map}
@@ -6,7 +6,6 @@ use Prim.Native.Nat.{ℕ, zero, suc, _+_, _≤_, _<_}
 use native.Mathlib.Decide.{ℕ-discrete, decLt}
 use native.Mathlib.Numerals.{add-one}
 use native.Mathlib.Omega.{arith}
-use lib.Dec.{eqb}
 use lib.IntN.{ℤ, pos, _-ℤ_}
 use lib.ListN.{length, getD, set, take, length-set}
 use lib.Seq.{take-suc-set, take-all}
@@ -17,13 +16,14 @@ use mir.ValLaws.{toZ-ofZ}
 use borrow.Author.Tests.{lt-ltb, le-ltb}
 use Rattle.model.specs.Code.{Code, dataCount, checksEach, checksOf}
 use Rattle.model.specs.Decoder.{State, estimates, dataSymbols, marginsOf}
-use Rattle.model.specs.Symbols.{choose, count, weight, tabulate, symbolsAt}
-use Rattle.model.specs.Vote.{leader, leadCount, otherCount, nextCount, margin}
+use Rattle.model.specs.Symbols.{count, weight, tabulate, symbolsAt}
+use Rattle.model.specs.Vote.{otherCount, margin}
 use Rattle.theory.specs.Circulant.{length-checksBy}
-use Rattle.theory.specs.Counting.{All, differ-yes, length-symbolsAt}
+use Rattle.theory.specs.Counting.{same-yes, differ-no, differ-yes, All, length-symbolsAt, misses, count-misses}
 use Rattle.theory.specs.Integers.{whole}
-use Rattle.theory.specs.Margins.{zeros-others, margin-top, other-zero, margins-snoc}
+use Rattle.theory.specs.Margins.{zeros-others, margin-top, margins-snoc}
 use Rattle.theory.specs.Steps.{stateWeight}
+use Rattle.theory.specs.Voting.{other-max}
 use Rattle.checks.specs.Checks.{AtChecks}
 use Rattle.zeros.specs.Counts.{zeroCounts}
 
@@ -32,14 +32,24 @@ pub margin-firm : (es : List ℕ) → count 0 es ≡ length es → pos (count 0 
 unfolding margin
 margin-firm es e = ap (λ (n : ℕ). pos (count 0 es) -ℤ pos n) (let z : 0 ≡ otherCount es 0 es = omega (arith, zeros-others es) in z)
 
--- else by the vote
-pub margin-voted : (es : List ℕ) → pos (count 0 es) -ℤ pos (choose (eqb (leader es) 0) (nextCount es) (leadCount es)) ≡ margin es
-unfolding margin
-margin-voted es = ap (λ (n : ℕ). pos (count 0 es) -ℤ pos n) (sym (other-zero es))
+-- where all but one are 0
+some-other : (es : List ℕ) → 0 < misses 0 es → (v : ℕ) × (v ≢ 0) × (0 < count v es)
+unfolding misses count
+some-other [] h = absurd (omega arith)
+some-other (x ∷ xs) h = elim (ℕ-discrete x 0) as (λ o. (v : ℕ) × (v ≢ 0) × (0 < count v (x ∷ xs))) [
+  | yes e ↦ let s = some-other xs (omega (arith, differ-no 0 x (sym e))) in (s .0, s .1, omega (arith, s .2))
+  | no n ↦ (x, n, omega (arith, same-yes x x refl))
+]
 
--- both terms are at most the number of estimates
-pub most-few : (es : List ℕ) → choose (eqb (leader es) 0) (nextCount es) (leadCount es) ≤ length es
-most-few es = omega (arith, other-zero es, zeros-others es)
+pub margin-but-one : (es : List ℕ) → count 0 es + 1 ≡ length es → pos (count 0 es) -ℤ pos 1 ≡ margin es
+unfolding margin
+margin-but-one es e =
+    let s = some-other es (omega (arith, count-misses 0 es)) in
+    ap (λ (n : ℕ). pos (count 0 es) -ℤ pos n) (let z : 1 ≡ otherCount es 0 es = omega (arith, zeros-others es, s .2, other-max es 0 es (s .0) (s .1) (s .2)) in z)
+
+-- both terms are no more than the estimates
+pub others-few : (es : List ℕ) → otherCount es 0 es ≤ length es
+others-few es = omega (arith, zeros-others es)
 
 -- ---- margins written from the front
 

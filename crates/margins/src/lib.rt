@@ -1,15 +1,13 @@
 // The margins of data symbols, which tell how firmly each stands: zeros among its estimates less the largest count of any one other value.
 use params::Params;
-use vote::Vote;
 ghost use mathlib.Core.Path.{_≡_};
 ghost use mathlib.Core.List.{List, map};
 ghost use Prim.Native.Nat.{ℕ, _+_, _<_, _≤_};
-ghost use lib.Dec.{eqb};
 ghost use lib.IntN.{pos, _-ℤ_};
 ghost use lib.ListN.{length};
 ghost use Rattle.model.specs.Code.{dataCount, checksOf};
 ghost use Rattle.model.specs.Decoder.{stateBy, marginsOf};
-ghost use Rattle.model.specs.Symbols.{choose, count, tabulate, symbolsAt};
+ghost use Rattle.model.specs.Symbols.{count, tabulate, symbolsAt};
 ghost use Rattle.model.specs.Vote.{margin};
 ghost use Rattle.params.specs.Codes.{codeBy};
 ghost use Rattle.checks.specs.Checks.{AtChecks, estimatesAt};
@@ -24,14 +22,8 @@ fn margin_of(zeros: u8, most: u8) -> i32
     (zeros as i32) - (most as i32)
 }
 
-// The largest count of a value other than 0, read off the vote.
-fn most_other(v: Vote) -> u8
-    ensures { λ r. ⌜ r ≡ choose (eqb (v .leader) 0) (v .next) (v .lead) ⌝ }
-{
-    if v.leader == 0 { v.next } else { v.lead }
-}
-
-// The margin of data symbol j, whose own difference and zeros at its checks are given. No vote is taken where every estimate is 0.
+// The margin of data symbol j, whose own difference and zeros at its checks are given. Where at most one estimate is not 0, these
+// settle it; else the other values are counted.
 pub fn margin_at(code: Params, positions: &[u16], j: usize, own: u8, others: u8, s: &[u8]) -> i32
     requires { ⌜ AtChecks (codeBy code (now positions)) (now s)
         × (j < dataCount (codeBy code (now positions)))
@@ -39,11 +31,14 @@ pub fn margin_at(code: Params, positions: &[u16], j: usize, own: u8, others: u8,
     ensures { λ r. ⌜ r ≡ margin (estimatesAt (codeBy code (now (positions .entry))) j own (now (s .entry))) ⌝ }
 {
     let zeros = others + symbols::equal(0, own);
-    if (zeros as usize) == positions.len() + 1 {
+    let n = positions.len() + 1;
+    if (zeros as usize) == n {
         return margin_of(zeros, 0);
     }
-    let v = visits::vote_at(code, positions, j, own, s);
-    margin_of(zeros, most_other(v))
+    if (zeros as usize) + 1 == n {
+        return margin_of(zeros, 1);
+    }
+    margin_of(zeros, visits::most_other_at(code, positions, j, own, s))
 }
 
 // The margin of every data symbol, from S and D and the zeros at the checks of each.

@@ -10,6 +10,7 @@ ghost use Rattle.model.specs.Decoder.{stateBy, change};
 ghost use Rattle.model.specs.Symbols.{sub, count, symbolsAt};
 ghost use Rattle.params.specs.Codes.{codeBy};
 ghost use Rattle.vote.specs.Leading.{voteOf};
+ghost use Rattle.vote.specs.Others.{others};
 ghost use Rattle.checks.specs.Checks.{AtChecks, estimatesAt};
 ghost use Rattle.zeros.specs.Counts.{zeroCounts};
 ghost use Rattle.visits.specs.Decisions.{toSubtract};
@@ -24,6 +25,17 @@ pub fn vote_at(code: Params, positions: &[u16], j: usize, own: u8, s: &[u8]) -> 
     let mut es = [0u8; 33];
     checks::gather(code, positions, j, own, s, &mut es[..n]);
     vote::vote_over(&es[..n])
+}
+
+// The largest count of a value other than 0 among the estimates of data symbol j, whose own difference is given.
+pub fn most_other_at(code: Params, positions: &[u16], j: usize, own: u8, s: &[u8]) -> u8
+    requires { ⌜ AtChecks (codeBy code (now positions)) (now s) × (j < dataCount (codeBy code (now positions))) ⌝ }
+    ensures { λ r. ⌜ r ≡ others (estimatesAt (codeBy code (now (positions .entry))) j own (now (s .entry))) ⌝ }
+{
+    let n = positions.len() + 1;
+    let mut found = [0u8; 33];
+    checks::gather(code, positions, j, own, s, &mut found[..n]);
+    vote::most_other(&found[..n])
 }
 
 // h subtracted from symbol j of the result and of the difference.

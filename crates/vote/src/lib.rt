@@ -118,6 +118,34 @@ pub fn vote_over(es: &[u8]) -> Vote
     }
 }
 
+// The larger of m and the count of a value, which counts 0 where the value is 0.
+fn raised(m: u8, value: usize, count: u8) -> u8
+    ensures { λ r. ⌜ r ≡ max m (choose (eqb value 0) 0 count) ⌝ }
+{
+    if value == 0 {
+        return m;
+    }
+    if m < count { count } else { m }
+}
+
+// The largest count of a value other than 0, by a counter for each value.
+pub fn most_other(es: &[u8]) -> u8
+    requires { ⌜ length (now es) ≤ 33 ⌝ }
+    ensures { λ r. ⌜ r ≡ otherCount (now (es .entry)) 0 (now (es .entry)) ⌝ }
+{
+    let mut counters = [0u8; 256];
+    let mut most: u8 = 0;
+    let mut i = 0;
+    while i < es.len() {
+        let e = es[i] as usize;
+        let c = counters[e] + 1;
+        counters[e] = c;
+        most = raised(most, e, c);
+        i += 1;
+    }
+    most
+}
+
 // A quick test before the vote: whether the leader's count is above the bound, by a counter for each value.
 pub fn lead_above(es: &[u8], bound: u8) -> bool
     requires { ⌜ length (now es) ≤ 33 ⌝ }

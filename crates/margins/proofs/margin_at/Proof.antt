@@ -1,20 +1,18 @@
--- `margin_at`: where the zeros are as many as the estimates the other count is 0, else the vote tells it.
+-- `margin_at`: where all estimates are 0, or all but one, the zeros settle the other count; else it is counted.
 use borrow.Author.Needs.{needs}
 use mathlib.Core.Path.{_≡_, _∙_, ap}
 use Prim.Native.Nat.{ℕ, _+_, _≤_}
 use native.Mathlib.Omega.{arith}
-use lib.Dec.{eqb}
 use lib.IntN.{pos, _-ℤ_}
 use lib.ListN.{length}
 use mathlib.Core.List.{List}
-use Rattle.model.specs.Symbols.{choose, count}
-use Rattle.model.specs.Vote.{leader, leadCount, nextCount}
+use Rattle.model.specs.Symbols.{count}
+use Rattle.model.specs.Vote.{margin}
 use Rattle.params.specs.Codes.{codeBy}
 use Rattle.checks.specs.Checks.{estimatesAt}
 use Rattle.theory.specs.Margins.{count-le}
-use Rattle.vote.specs.declared.Vote.{Vote}
 use Rattle.visits.specs.Estimates.{estimates-length, zeros-counted}
-use Rattle.margins.specs.Margins.{margin-firm, margin-voted, most-few, read-back}
+use Rattle.margins.specs.Margins.{margin-firm, margin-but-one, others-few, read-back}
 use Rattle.margins.proofs.margin_at.Statement.{statement}
 use Rattle.margins.proofs.margin_at.Tie as tie
 
@@ -41,11 +39,11 @@ equal-requires c κs = search needs
 add-zeros : tie.Need-add-zeros
 add-zeros c = let k = counted c in omega (arith, k .zero-count, k .few, count-le 0 (estimates c))
 
+add-n : tie.Need-add-n
+add-n c = search needs
+
 cast-if1 : tie.Need-cast-if1
 cast-if1 c = search needs
-
-add-if1 : tie.Need-add-if1
-add-if1 c = search needs
 
 margin-of-requires : tie.Need-margin-of-requires
 margin-of-requires c κs = let k = counted (c .before) in (omega (arith, k .len, k .few, c .if1 .taken), omega arith)
@@ -57,31 +55,38 @@ returns c =
     read-back _ (c .margin-of .ok) ∙ c .margin-of .ensures ∙ ap (λ (n : ℕ). pos n -ℤ pos 0) (k .zero-count)
     ∙ margin-firm (estimates q) (omega (arith, k .zero-count, k .len, c .before .if1 .taken))
 
-vote-at-requires : tie.Need-vote-at-requires
-vote-at-requires c κs = let p = c .before .before .before .before .pre in (p .0, p .1)
+cast-if2 : tie.Need-cast-if2
+cast-if2 c = search needs
 
-most-other-requires : tie.Need-most-other-requires
-most-other-requires c κs = search needs
-
--- the largest other count, off the vote
-other : (c : tie.After-most-other)
-    → let es = estimates (c .before .before .before) in
-    c .most-other .result ≡ choose (eqb (leader es) 0) (nextCount es) (leadCount es)
-other c = c .most-other .ensures ∙ ap (λ (v : Vote). choose (eqb (v .leader) 0) (v .next) (v .lead)) (c .before .vote-at .ensures)
+add-if2 : tie.Need-add-if2
+add-if2 c = search needs
 
 margin-of-requires-2 : tie.Need-margin-of-requires-2
-margin-of-requires-2 c κs =
-    let q = c .before .before .before in
-    let k = counted q in
-    (omega (arith, k .zero-count, k .few, count-le 0 (estimates q)), omega (arith, other c, most-few (estimates q), k .few))
+margin-of-requires-2 c κs = let k = counted (c .before .before) in (omega (arith, k .len, k .few, c .if2 .taken), omega arith)
 
 returns-2 : tie.Need-returns-2
 returns-2 c =
+    let q = c .before .before .before in
+    let k = counted q in
+    read-back _ (c .margin-of2 .ok) ∙ c .margin-of2 .ensures ∙ ap (λ (n : ℕ). pos n -ℤ pos 1) (k .zero-count)
+    ∙ margin-but-one (estimates q) (omega (arith, k .zero-count, k .len, c .before .if2 .taken))
+
+most-other-at-requires : tie.Need-most-other-at-requires
+most-other-at-requires c κs = let p = c .before .before .before .before .before .pre in (p .0, p .1)
+
+margin-of-requires-3 : tie.Need-margin-of-requires-3
+margin-of-requires-3 c κs =
+    let q = c .before .before .before in
+    let k = counted q in
+    (omega (arith, k .zero-count, k .few, count-le 0 (estimates q)), omega (arith, c .most-other-at .ensures, others-few (estimates q), k .few))
+
+returns-3 : tie.Need-returns-3
+unfolding margin
+returns-3 c =
     let o = c .before in
     let q = o .before .before .before in
-    let k = counted q in
-    read-back _ (c .margin-of2 .ok) ∙ c .margin-of2 .ensures ∙ ap (λ (n : ℕ). pos n -ℤ pos (o .most-other .result)) (k .zero-count)
-    ∙ ap (λ (n : ℕ). pos (count 0 (estimates q)) -ℤ pos n) (other o) ∙ margin-voted (estimates q)
+    read-back _ (c .margin-of3 .ok) ∙ c .margin-of3 .ensures ∙ ap (λ (n : ℕ). pos n -ℤ pos (o .most-other-at .result)) (counted q .zero-count)
+    ∙ ap (λ (n : ℕ). pos (count 0 (estimates q)) -ℤ pos n) (o .most-other-at .ensures)
 
 pub margin-at-spec : {M : Type 1} → statement M
 margin-at-spec =
@@ -89,11 +94,14 @@ margin-at-spec =
     (tie.spec
     equal-requires
     add-zeros
+    add-n
     cast-if1
-    add-if1
     margin-of-requires
     returns
-    vote-at-requires
-    most-other-requires
+    cast-if2
+    add-if2
     margin-of-requires-2
-    returns-2)
+    returns-2
+    most-other-at-requires
+    margin-of-requires-3
+    returns-3)

@@ -1,11 +1,11 @@
 -- `twos_of`: a negative number is −1 − n, whose 32 bits are those of 4,294,967,295 − n; any other number is itself.
 use mathlib.Core.Path.{_≡_, refl, sym, _∙_, ap}
 use mathlib.Core.Bool.{true, false}
-use Prim.Native.Nat.{ℕ, zero, suc, _≤_, _<_, _-_, _+_, _^_}
+use Prim.Native.Nat.{ℕ, suc, _<_, _-_, _^_}
 use native.Mathlib.Omega.{arith}
-use borrow.Author.Tests.{lt-ltb, le-ltb, ltb-true, ltb-false}
+use borrow.Author.Tests.{le-ltb, ltb-true}
 use lib.IntN.{ℤ, pos, negsuc, _-ℤ_}
-use lib.Signed.{mag, ltZ}
+use lib.Signed.{ltZ}
 use Rattle.model.specs.Bytes.{twos}
 use mir.Val.{toZ, ofZ, SFits}
 use mir.Syntax.{w32}

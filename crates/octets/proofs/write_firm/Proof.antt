@@ -3,7 +3,6 @@ use mathlib.Core.Path.{sym, ap}
 use Prim.Native.Nat.{_-_}
 use native.Mathlib.Omega.{arith}
 use lib.IntN.{pos, _-ℤ_}
-use lib.ListN.{length}
 use Rattle.model.specs.Bytes.{twos}
 use Rattle.theory.specs.Integers.{whole}
 use Rattle.octets.specs.Words.{Front, front-none, front-turn, front-all}
