@@ -138,9 +138,9 @@ pub fn most_other(es: &[u8]) -> u8
     let mut i = 0;
     while i < es.len() {
         let e = es[i] as usize;
-        let c = counters[e] + 1;
-        counters[e] = c;
-        most = raised(most, e, c);
+        let n = counters[e] + 1;
+        counters[e] = n;
+        most = raised(most, e, n);
         i += 1;
     }
     most

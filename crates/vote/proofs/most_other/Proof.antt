@@ -33,11 +33,11 @@ shared-slice-read-e c = omega arith
 cast-e : tie.Need-cast-e Inv-loop μ-loop
 cast-e c = omega (arith, c .shared-slice-known2 .given (c .before .before .loop .i))
 
-array-read-c : tie.Need-array-read-c Inv-loop μ-loop
-array-read-c c = omega (arith, c .shared-slice-known2 .given (c .before .before .loop .i))
+array-read-n : tie.Need-array-read-n Inv-loop μ-loop
+array-read-n c = omega (arith, c .shared-slice-known2 .given (c .before .before .loop .i))
 
-add-c : tie.Need-add-c Inv-loop μ-loop
-add-c c = omega (arith, few (c .before .before))
+add-n : tie.Need-add-n Inv-loop μ-loop
+add-n c = omega (arith, few (c .before .before))
 
 array-write-counters : tie.Need-array-write-counters Inv-loop μ-loop
 array-write-counters c = omega (arith, c .shared-slice-known2 .given (c .before .before .loop .i))
@@ -78,8 +78,8 @@ most-other-spec =
     loop-holds
     shared-slice-read-e
     cast-e
-    array-read-c
-    add-c
+    array-read-n
+    add-n
     array-write-counters
     raised-requires
     add-i
