@@ -1,14 +1,10 @@
 // The C calls: they read positions and write margins and counts as bytes, and call the Rattle functions; nothing is decided twice.
-use params::Params;
 ghost use mathlib.Core.Path.{_≡_};
-ghost use Prim.Native.Nat.{_≤_};
-ghost use lib.ListN.{length};
 ghost use Rattle.model.specs.Code.{codeOf};
 ghost use Rattle.model.specs.Decoder.{stateBy, decodedCounts};
 ghost use Rattle.model.specs.Calls.{tableAnswer, encodeOutcome, syndromeOutcome};
 ghost use Rattle.model.specs.Bytes.{positionsOf, cDecodeOutcome};
 ghost use Rattle.model.specs.Demand.{Encodes, DecodeFalls, DecodeRecovers};
-ghost use Rattle.params.specs.Codes.{codeBy};
 
 // The version: major times 10,000 plus minor times 100 plus patch.
 #[no_mangle]
@@ -57,64 +53,7 @@ pub extern "C" fn qmtd_syndrome(
     page::syndrome(q, k, &positions[..n], page, syndrome)
 }
 
-// Decode in its C form, with the positions read and a buffer for the zeros. Margins and counts are written only when the call is done.
-fn decode_into(
-    code: Params,
-    positions: &[u16],
-    page: &[u8],
-    thresholds: &[u8],
-    zeros: &mut [u8],
-    result: &mut [u8],
-    syndrome: &mut [u8],
-    difference: &mut [u8],
-    margins: &mut [u8],
-    counts: &mut [u8],
-) -> u32
-    requires { ⌜ (code .k ≤ 4294967295) × (code .k ≤ 4096 → code .k ≤ length (now zeros)) ⌝ }
-    ensures outcome { λ r. ⌜ record {
-      number = r;
-      left = record {
-        state = stateBy (now (result .exit)) (now (syndrome .exit)) (now (difference .exit));
-        margins = now (margins .exit);
-        counts = now (counts .exit);
-      };
-    } ≡ cDecodeOutcome (codeBy code (now (positions .entry))) (now (page .entry)) (now (thresholds .entry))
-        (stateBy (now (result .entry)) (now (syndrome .entry)) (now (difference .entry))) (now (margins .entry)) (now (counts .entry)) ⌝ }
-    ensures falling { λ r. ⌜ (r ≡ 0 → DecodeFalls (codeBy code (now (positions .entry))) (now (thresholds .entry)) (now (page .entry))
-        (decodedCounts (codeBy code (now (positions .entry))) (now (thresholds .entry)) (now (page .entry)))) ⌝ }
-    ensures recovery { λ r. ⌜ (r ≡ 0 → DecodeRecovers (codeBy code (now (positions .entry))) (now (thresholds .entry)) (now (page .entry)) (now (result .exit))) ⌝ }
-{
-    let k = code.k;
-    let others = answers::two_fit(margins.len(), 4 * k, counts.len(), 16);
-    let decoded = decoder::decode_with(
-        others,
-        code,
-        positions,
-        page,
-        thresholds,
-        zeros,
-        result,
-        syndrome,
-        difference,
-    );
-    if decoded.number != 0 {
-        return decoded.number;
-    }
-    let tally = decoded.tally;
-    octets::put_margins(
-        code,
-        positions,
-        tally.end,
-        zeros,
-        syndrome,
-        difference,
-        margins,
-    );
-    octets::put_counts(counts, tally.passes, tally.changes, tally.start, tally.end);
-    0
-}
-
-// Decodes a page. A small code clears a small buffer for the zeros.
+// Decodes a page.
 #[no_mangle]
 pub extern "C" fn qmtd_decode(
     q: u32,
@@ -141,31 +80,12 @@ pub extern "C" fn qmtd_decode(
         (decodedCounts (codeOf q k (positionsOf (now (table .entry)))) (now (thresholds .entry)) (now (page .entry)))) ⌝ }
     ensures recovery { λ r. ⌜ (r ≡ 0 → DecodeRecovers (codeOf q k (positionsOf (now (table .entry)))) (now (thresholds .entry)) (now (page .entry)) (now (result .exit))) ⌝ }
 {
-    let mut positions = [0u16; 32];
-    let n = octets::read_positions(table, &mut positions);
-    let code = Params { q, k: k as usize };
-    if k <= 128 {
-        let mut few = [0u8; 128];
-        return decode_into(
-            code,
-            &positions[..n],
-            page,
-            thresholds,
-            &mut few,
-            result,
-            syndrome,
-            difference,
-            margins,
-            counts,
-        );
-    }
-    let mut zeros = [0u8; 4096];
-    decode_into(
-        code,
-        &positions[..n],
+    c_decoder::decode(
+        q,
+        k,
+        table,
         page,
         thresholds,
-        &mut zeros,
         result,
         syndrome,
         difference,

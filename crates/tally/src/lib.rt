@@ -1,4 +1,4 @@
-// The tally of a decode: its four counts as a value, whose methods take it and return the next.
+// The tally of a decode: its four counts as a value, whose methods take it and return the next; and what decode hands back.
 ghost use mathlib.Core.Path.{_≡_};
 ghost use Prim.Native.Nat.{_+_, _<_};
 
@@ -59,4 +59,10 @@ impl Tally {
             end: self.end,
         }
     }
+}
+
+// What decode hands back beside the buffers: its number, and the counts, four zeros where it is refused.
+pub struct Decoded {
+    pub number: u32,
+    pub tally: Tally,
 }

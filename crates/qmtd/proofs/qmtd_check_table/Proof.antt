@@ -3,7 +3,7 @@ use mathlib.Core.Path.{sym, _∙_}
 use native.Mathlib.Omega.{arith}
 use lib.Seq.{length-take-le}
 use Rattle.model.specs.Bytes.{positionsOf}
-use Rattle.qmtd.specs.Reads.{table-read}
+use Rattle.octets.specs.Reads.{table-read}
 use borrow.Author.Needs.{needs}
 use Rattle.qmtd.proofs.qmtd_check_table.Statement.{statement}
 use Rattle.qmtd.proofs.qmtd_check_table.Tie as tie

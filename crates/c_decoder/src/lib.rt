@@ -1,0 +1,66 @@
+// The C form of decode, which reads the positions of the table and has the buffer for the zeros.
+use params::Params;
+ghost use mathlib.Core.Path.{_≡_};
+ghost use Rattle.model.specs.Code.{codeOf};
+ghost use Rattle.model.specs.Decoder.{stateBy, decodedCounts};
+ghost use Rattle.model.specs.Bytes.{positionsOf, cDecodeOutcome};
+ghost use Rattle.model.specs.Demand.{DecodeFalls, DecodeRecovers};
+
+// Decodes a page. A small code clears a small buffer for the zeros.
+pub fn decode(
+    q: u32,
+    k: u32,
+    table: &[u8],
+    page: &[u8],
+    thresholds: &[u8],
+    result: &mut [u8],
+    syndrome: &mut [u8],
+    difference: &mut [u8],
+    margins: &mut [u8],
+    counts: &mut [u8],
+) -> u32
+    ensures outcome { λ r. ⌜ record {
+      number = r;
+      left = record {
+        state = stateBy (now (result .exit)) (now (syndrome .exit)) (now (difference .exit));
+        margins = now (margins .exit);
+        counts = now (counts .exit);
+      };
+    } ≡ cDecodeOutcome (codeOf q k (positionsOf (now (table .entry)))) (now (page .entry)) (now (thresholds .entry))
+        (stateBy (now (result .entry)) (now (syndrome .entry)) (now (difference .entry))) (now (margins .entry)) (now (counts .entry)) ⌝ }
+    ensures falling { λ r. ⌜ (r ≡ 0 → DecodeFalls (codeOf q k (positionsOf (now (table .entry)))) (now (thresholds .entry)) (now (page .entry))
+        (decodedCounts (codeOf q k (positionsOf (now (table .entry)))) (now (thresholds .entry)) (now (page .entry)))) ⌝ }
+    ensures recovery { λ r. ⌜ (r ≡ 0 → DecodeRecovers (codeOf q k (positionsOf (now (table .entry)))) (now (thresholds .entry)) (now (page .entry)) (now (result .exit))) ⌝ }
+{
+    let mut positions = [0u16; 32];
+    let n = octets::read_positions(table, &mut positions);
+    let code = Params { q, k: k as usize };
+    if k <= 128 {
+        let mut few = [0u8; 128];
+        return c_receiver::decode_into(
+            code,
+            &positions[..n],
+            page,
+            thresholds,
+            &mut few,
+            result,
+            syndrome,
+            difference,
+            margins,
+            counts,
+        );
+    }
+    let mut zeros = [0u8; 4096];
+    c_receiver::decode_into(
+        code,
+        &positions[..n],
+        page,
+        thresholds,
+        &mut zeros,
+        result,
+        syndrome,
+        difference,
+        margins,
+        counts,
+    )
+}

@@ -1,0 +1,66 @@
+// The C form of decode with a buffer for the zeros lent: margins and counts are written as bytes.
+use params::Params;
+ghost use mathlib.Core.Path.{_≡_};
+ghost use Prim.Native.Nat.{_≤_};
+ghost use lib.ListN.{length};
+ghost use Rattle.model.specs.Decoder.{stateBy, decodedCounts};
+ghost use Rattle.model.specs.Bytes.{cDecodeOutcome};
+ghost use Rattle.model.specs.Demand.{DecodeFalls, DecodeRecovers};
+ghost use Rattle.params.specs.Codes.{codeBy};
+
+// Decodes a received page, with the positions read and a buffer for the zeros. Margins and counts are written only when the call is done.
+pub fn decode_into(
+    code: Params,
+    positions: &[u16],
+    page: &[u8],
+    thresholds: &[u8],
+    zeros: &mut [u8],
+    result: &mut [u8],
+    syndrome: &mut [u8],
+    difference: &mut [u8],
+    margins: &mut [u8],
+    counts: &mut [u8],
+) -> u32
+    requires { ⌜ (code .k ≤ 4294967295) × (code .k ≤ 4096 → code .k ≤ length (now zeros)) ⌝ }
+    ensures outcome { λ r. ⌜ record {
+      number = r;
+      left = record {
+        state = stateBy (now (result .exit)) (now (syndrome .exit)) (now (difference .exit));
+        margins = now (margins .exit);
+        counts = now (counts .exit);
+      };
+    } ≡ cDecodeOutcome (codeBy code (now (positions .entry))) (now (page .entry)) (now (thresholds .entry))
+        (stateBy (now (result .entry)) (now (syndrome .entry)) (now (difference .entry))) (now (margins .entry)) (now (counts .entry)) ⌝ }
+    ensures falling { λ r. ⌜ (r ≡ 0 → DecodeFalls (codeBy code (now (positions .entry))) (now (thresholds .entry)) (now (page .entry))
+        (decodedCounts (codeBy code (now (positions .entry))) (now (thresholds .entry)) (now (page .entry)))) ⌝ }
+    ensures recovery { λ r. ⌜ (r ≡ 0 → DecodeRecovers (codeBy code (now (positions .entry))) (now (thresholds .entry)) (now (page .entry)) (now (result .exit))) ⌝ }
+{
+    let k = code.k;
+    let others = answers::two_fit(margins.len(), 4 * k, counts.len(), 16);
+    let decoded = receiver::decode_with(
+        others,
+        code,
+        positions,
+        page,
+        thresholds,
+        zeros,
+        result,
+        syndrome,
+        difference,
+    );
+    if decoded.number != 0 {
+        return decoded.number;
+    }
+    let tally = decoded.tally;
+    octets::put_margins(
+        code,
+        positions,
+        tally.end,
+        zeros,
+        syndrome,
+        difference,
+        margins,
+    );
+    octets::put_counts(counts, tally.passes, tally.changes, tally.start, tally.end);
+    0
+}

@@ -1,0 +1,140 @@
+-- `decode_page`: the page is opened; at distance 0 its one pass is idle, else the passes run from the opened page are the decode.
+use borrow.Author.Needs.{needs}
+use mathlib.Core.Path.{_≡_, refl, sym, _∙_, ap, subst}
+use native.Mathlib.Omega.{arith}
+use Rattle.model.specs.Decoder.{State}
+use Rattle.params.specs.Codes.{codeBy}
+use Rattle.tally.specs.declared.Tally.{Tally}
+use Rattle.visits.specs.Progress.{progress, Ready, both}
+use Rattle.passes.specs.Runs.{runOf}
+use Rattle.correction.specs.Decoded.{startAt, opened-ready, clean-decoded, run-decoded, run-lengths}
+use Rattle.correction.proofs.decode_page.Statement.{statement}
+use Rattle.correction.proofs.decode_page.Tie as tie
+
+-- the places that later ones look back to: the start, the opening, the run
+abbrev start : tie.After-open-page → tie.Start
+start c = c .before .before .before .before .before .before .before .before .before .before .before
+
+abbrev opening : tie.Else1 → tie.After-open-page
+opening c = c .before .before .before .before .before .before .before
+
+abbrev ran : tie.After-state-weight-arg2 → tie.After-run
+ran c = c .before .before .before .before .before .before .before .before .before .before
+
+open-page-requires : tie.Need-open-page-requires
+open-page-requires c κs = search needs
+
+opened-requires : tie.Need-opened-requires
+opened-requires c κs = search needs
+
+passed-requires : tie.Need-passed-requires
+passed-requires c κs = search needs
+
+same-length : tie.Need-same-length
+same-length c = search needs
+
+same-length-2 : tie.Need-same-length-2
+same-length-2 c = search needs
+
+same-length-3 : tie.Need-same-length-3
+same-length-3 c = search needs
+
+returns : tie.Need-returns
+returns c =
+    let clean = c .before .before in
+    let o = clean .before .before .before .before .before .before .before in
+    let b = start o in
+    let a = b .args in
+    rw (c .passed .ensures, c .before .opened .ensures) (
+      both (o .open-page .ensures .0) refl
+          ∙ clean-decoded (codeBy (a .code) (a .positions .now)) (a .page .now) _ (b .pre .0 .opens) (sym (o .open-page .ensures .1) ∙ clean .if1 .taken) (a .thresholds .now) (b .pre .0 .some),
+      λ n. absurd (n refl),
+    )
+
+opened-requires-2 : tie.Need-opened-requires-2
+opened-requires-2 c κs = search needs
+
+run-requires : tie.Need-run-requires
+run-requires c κs =
+    let t = c .before .before .before .before in
+    let o = opening (t .before) in
+    let b = start o in
+    let a = b .args in
+    let code = codeBy (a .code) (a .positions .now) in (
+      subst (λ (st : State). Ready code st) (sym (o .open-page .ensures .0)) (opened-ready code (a .page .now) _ (b .pre .0 .opens)),
+      b .pre .0 .few,
+      ap (λ (t : Tally). t .changes) (t .opened2 .ensures),
+      b .pre .1,
+    )
+
+-- what the passes left is the run from the opened page
+from-opened : (r : tie.After-run)
+    → let o = opening (r .before .before .before .before .before .before) in
+    let a = start o .args in
+    let code = codeBy (a .code) (a .positions .now) in
+    runOf code (a .thresholds .now) (progress (o .open-page .last .1 .1 .1 .0) (o .open-page .last .1 .1 .1 .1 .0) (o .open-page .last .1 .1 .1 .1 .1 .0) (r .before .before .before .before .before .opened2 .result))
+    ≡ runOf code (a .thresholds .now) (startAt code (a .page .now) (o .open-page .result))
+from-opened r =
+    let t = r .before .before .before .before .before in
+    let o = opening (t .before) in
+    ap (runOf _ _) (both (o .open-page .ensures .0) (t .opened2 .ensures))
+
+state-weight-requires : tie.Need-state-weight-requires
+state-weight-requires c κs =
+    let r = ran c in
+    let o = opening (r .before .before .before .before .before .before) in
+    let b = start o in
+    let a = b .args in
+    run-lengths (codeBy (a .code) (a .positions .now)) (a .page .now) _ (b .pre .0 .opens) (a .thresholds .now) _ _ (r .run .ensures .0 ∙ from-opened r)
+
+ended-requires : tie.Need-ended-requires
+ended-requires c κs = search needs
+
+same-length-4 : tie.Need-same-length-4
+same-length-4 c = search needs
+
+same-length-5 : tie.Need-same-length-5
+same-length-5 c =
+    let back = c .before .before .before .before .before .before .before .before .before .before .before in
+    let opened = back .before .before .before .before .before .before .before .before .before .before .before .before .before in
+    omega (arith, back .result2 .given, opened .result .given)
+
+same-length-6 : tie.Need-same-length-6
+same-length-6 c = search needs
+
+same-length-7 : tie.Need-same-length-7
+same-length-7 c = search needs
+
+returns-2 : tie.Need-returns-2
+returns-2 c =
+    let w = c .before in
+    let r = ran (w .before) in
+    let o = opening (r .before .before .before .before .before .before) in
+    let b = start o in
+    let a = b .args in
+    let code = codeBy (a .code) (a .positions .now) in (
+      rw (c .ended .ensures)
+          (run-decoded code (a .page .now) _ (b .pre .0 .opens) (a .thresholds .now) _ _ (r .run .ensures .0 ∙ from-opened r) _ (o .open-page .ensures .1) (w .state-weight .ensures)),
+      λ n. r .run .ensures .1,
+    )
+
+pub decode-page-spec : {M : Type 1} → statement M
+decode-page-spec =
+    tie.close
+    (tie.spec
+    open-page-requires
+    opened-requires
+    passed-requires
+    same-length
+    same-length-2
+    same-length-3
+    returns
+    opened-requires-2
+    run-requires
+    state-weight-requires
+    ended-requires
+    same-length-4
+    same-length-5
+    same-length-6
+    same-length-7
+    returns-2)

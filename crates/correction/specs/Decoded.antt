@@ -1,0 +1,128 @@
+-- Decoding a whole page: the run of passes from the opened page, and a page at distance 0.
+use mathlib.Core.Path.{_≡_, refl, ap, sym, _∙_}
+use mathlib.Core.List.{List, [], _∷_, append-nil}
+use Prim.Native.Nat.{ℕ, _+_, _≤_, _<_}
+use native.Mathlib.Omega.{arith}
+use lib.ListN.{length}
+use Rattle.model.specs.Code.{Code, dataCount, checksOf}
+use Rattle.model.specs.Decoder.{State, Visit, after, changeCount, pass, passes, thresholdsRun, dataSymbols, opened, passesOf, run, distanceTo, Counts, decodedState, decodedCounts}
+use Rattle.model.specs.Symbols.{weight}
+use Rattle.theory.specs.Answers.{Opens}
+use Rattle.theory.specs.Codes.{code-incidence}
+use Rattle.theory.specs.Counting.{eqb-yes, zeros-weight}
+use Rattle.theory.specs.Decoding.{code-opened-sized, code-distance}
+use Rattle.theory.specs.Falling.{after-sized, idle-after}
+use Rattle.theory.specs.Runs.{range-pass, range-passes, symbols-range}
+use Rattle.theory.specs.Steps.{stateWeight}
+use Rattle.opening.specs.Opened.{opened-weight}
+use Rattle.passes.specs.Runs.{ran, runOf}
+use Rattle.visits.specs.Progress.{Progress, Ready}
+use Rattle.tally.specs.declared.Tally.{Tally}
+
+-- the counts as the tally has them
+abbrev pub tallyOf : Counts → Tally
+tallyOf n = record { passes = n .passes; changes = n .changes; start = n .start; end = n .end }
+
+-- what decoding a page hands back
+abbrev pub decoded : Code → List ℕ → List ℕ → Progress
+decoded c ts page = record { state = decodedState c ts page; tally = tallyOf (decodedCounts c ts page) }
+
+-- an opened page before the first pass, at distance n
+abbrev pub startAt : Code → List ℕ → ℕ → Progress
+startAt c page n = record { state = opened c page; tally = record { passes = 0; changes = 0; start = n; end = n } }
+
+-- ---- single facts
+
+idle-thresholds : (q : ℕ) (checks : ℕ → List ℕ) (js : List ℕ) (t : ℕ) (ts : List ℕ) (st : State) → changeCount q checks (pass js t) st ≡ 0
+    → thresholdsRun q checks js (t ∷ ts) st ≡ t ∷ []
+unfolding thresholdsRun
+idle-thresholds q checks js t ts st e = rw (eqb-yes (changeCount q checks (pass js t) st) 0 e) refl
+
+run-one : (c : Code) (ts page : List ℕ) (t : ℕ) → passesOf c ts page ≡ t ∷ [] → run c ts page ≡ pass (dataSymbols c) t
+unfolding run passes
+run-one c ts page t e = rw e (append-nil (pass (dataSymbols c) t))
+
+decoded-by : (c : Code) (ts page : List ℕ) (vs : List Visit) → run c ts page ≡ vs → decodedState c ts page ≡ after (c .q) (checksOf c) vs (opened c page)
+unfolding decodedState
+decoded-by c ts page vs e = ap (λ (ws : List Visit). after (c .q) (checksOf c) ws (opened c page)) e
+
+-- a weight is at most the length, so that the sum of two fits
+pub weights-small : (xs ys : List ℕ) → length xs ≤ 4096 → length ys ≤ 4096 → weight xs + weight ys ≤ 8192
+weights-small xs ys a b = omega (arith, zeros-weight xs, zeros-weight ys)
+
+-- ---- the opened page
+
+module _ (c : Code) (page : List ℕ) (lent : State) (o : Opens c page lent) where
+  pub opened-ready : Ready c (opened c page)
+  opened-ready = record { usable = o .usable; bytes = o .bytes; sized = code-opened-sized c (o .usable) page (o .whole) }
+
+  -- after the run the distance is the weight of D and S
+  pub decoded-distance : (ts : List ℕ) → stateWeight (decodedState c ts page) ≡ distanceTo c page (decodedState c ts page)
+  unfolding decodedState run
+  decoded-distance ts =
+      sym (code-distance c (o .usable) page (o .whole) (run c ts page) (range-passes (dataCount c) (dataSymbols c) (symbols-range c) (passesOf c ts page)))
+
+  -- a page at distance 0: its one pass is idle
+  pub clean-decoded : distanceTo c page (opened c page) ≡ 0 → (ts : List ℕ) → 0 < length ts
+      → _≡_ {A = Progress} (record { state = opened c page; tally = record { passes = 1; changes = 0; start = 0; end = 0 } }) (decoded c ts page)
+  unfolding passesOf decodedCounts
+  clean-decoded z [] h = absurd (omega arith)
+  clean-decoded z (t ∷ ts) h =
+      let q : ℕ = c .q in
+      let js : List ℕ = dataSymbols c in
+      let st : State = opened c page in
+      let i = idle-after (code-incidence c (o .usable)) (pass js t) (range-pass (dataCount c) js t (symbols-range c)) st (opened-ready .sized)
+      (sym (opened-weight c page lent o) ∙ z) in
+      let one : passesOf c (t ∷ ts) page ≡ t ∷ [] = idle-thresholds q (checksOf c) js t ts st (i .1) in
+      let visits : run c (t ∷ ts) page ≡ pass js t = run-one c (t ∷ ts) page t one in
+      let left : decodedState c (t ∷ ts) page ≡ st = decoded-by c (t ∷ ts) page (pass js t) visits ∙ i .0 in
+      λ o. record {
+        state = sym left o;
+        tally = record {
+          passes = sym (ap length one) o;
+          changes = sym (ap (λ (vs : List Visit). changeCount q (checksOf c) vs st) visits ∙ i .1) o;
+          start = sym z o;
+          end = sym (ap (distanceTo c page) left ∙ z) o;
+        };
+      }
+
+  -- ---- the run of the passes from it
+
+  module _ (ts : List ℕ) (n : ℕ) (x : Progress) (f : x ≡ runOf c ts (startAt c page n)) where
+    run-state : x .state ≡ decodedState c ts page
+    unfolding runOf ran decodedState run passesOf
+    run-state = ap (λ (y : Progress). y .state) f
+
+    run-passes : x .tally .passes ≡ length (passesOf c ts page)
+    unfolding runOf ran passesOf
+    run-passes = ap (λ (y : Progress). y .tally .passes) f ∙ (let z : 0 + length (passesOf c ts page) ≡ length (passesOf c ts page) = omega arith in z)
+
+    run-changes : x .tally .changes ≡ changeCount (c .q) (checksOf c) (run c ts page) (opened c page)
+    unfolding runOf ran run passesOf
+    run-changes =
+        ap (λ (y : Progress). y .tally .changes) f
+        ∙ (let z : 0 + changeCount (c .q) (checksOf c) (run c ts page) (opened c page) ≡ changeCount (c .q) (checksOf c) (run c ts page) (opened c page) = omega arith in z)
+
+    -- what it leaves has the lengths that it found
+    pub run-lengths : (length (x .state .difference) ≤ 4096) × (length (x .state .syndrome) ≤ 4096)
+    unfolding runOf ran
+    run-lengths =
+        let z = after-sized (code-incidence c (o .usable)) (passes (dataSymbols c) (thresholdsRun (c .q) (checksOf c) (dataSymbols c) ts (opened c page)))
+        (opened c page) (opened-ready .sized) in
+        let k = o .usable .table .k-high in
+        rw f (omega (arith, z .len-difference, k), omega (arith, z .len-syndrome, k))
+
+    -- it is the decode: e is the weight of D and S that it leaves
+    pub run-decoded : (e : ℕ) → n ≡ distanceTo c page (opened c page) → e ≡ weight (x .state .difference) + weight (x .state .syndrome)
+        → _≡_ {A = Progress} (record { state = x .state; tally = record { passes = x .tally .passes; changes = x .tally .changes; start = x .tally .start; end = e } })
+        (decoded c ts page)
+    unfolding runOf ran decodedCounts stateWeight
+    run-decoded e g w = λ i. record {
+      state = run-state i;
+      tally = record {
+        passes = run-passes i;
+        changes = run-changes i;
+        start = (ap (λ (y : Progress). y .tally .start) f ∙ g) i;
+        end = (w ∙ ap stateWeight run-state ∙ decoded-distance ts) i;
+      };
+    }

@@ -1,2 +1,0 @@
--- What the contracts of decode's inner functions cite, and their laws.
-pub mod Decodes

@@ -1,0 +1,35 @@
+-- The opened page: its parts, and its distance, which is the weight of the syndrome.
+use mathlib.Core.Path.{_≡_, refl, sym, _∙_}
+use mathlib.Core.List.{List, []}
+use Prim.Native.Nat.{ℕ, zero, suc}
+use native.Mathlib.Omega.{arith}
+use Rattle.model.specs.Code.{Code, dataCount, dataOf, syndrome}
+use Rattle.model.specs.Decoder.{State, stateBy, after, opened, distanceTo}
+use Rattle.model.specs.Symbols.{weight, tabulate}
+use Rattle.theory.specs.Answers.{Opens}
+use Rattle.theory.specs.Codes.{ByteCode}
+use Rattle.theory.specs.Counting.{differ-no}
+use Rattle.theory.specs.Decoding.{code-distance}
+use Rattle.theory.specs.Steps.{stateWeight}
+
+weight-zeros : (n : ℕ) → weight (tabulate n (λ i. 0)) ≡ 0
+unfolding tabulate weight
+weight-zeros zero = refl
+weight-zeros (suc n) = omega (arith, weight-zeros n, differ-no 0 0 refl)
+
+pub opened-by : (c : Code) (page r s d : List ℕ) → r ≡ dataOf c page → s ≡ syndrome c page → d ≡ tabulate (dataCount c) (λ i. 0) → stateBy r s d ≡ opened c page
+unfolding opened
+opened-by c page r s d e f g = λ i. record { result = e i; syndrome = f i; difference = g i }
+
+module _ (c : Code) (page : List ℕ) (lent : State) (o : Opens c page lent) where
+  pub opens-bytes : ByteCode c
+  opens-bytes = record { q-low = o .usable .q-low; q-high = o .bytes; table = o .usable .table }
+
+  pub opened-weight : distanceTo c page (opened c page) ≡ stateWeight (opened c page)
+  unfolding after
+  opened-weight = code-distance c (o .usable) page (o .whole) [] tt
+
+  -- D is 0 at first
+  pub opened-distance : weight (syndrome c page) ≡ distanceTo c page (opened c page)
+  unfolding stateWeight opened
+  opened-distance = sym (opened-weight ∙ omega (arith, weight-zeros (dataCount c)))

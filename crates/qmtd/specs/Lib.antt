@@ -1,2 +1,0 @@
--- Laws that the proofs of the C calls use.
-pub mod Reads

@@ -1,0 +1,122 @@
+-- `decode_with`: the tests give the number; refused, all is as it was lent; done, the page is decoded, and demand 3 holds of what was taken.
+use borrow.Author.Needs.{needs}
+use mathlib.Core.Path.{_≡_, sym, _∙_, ap}
+use mathlib.Core.Bool.{Bool, _&&_}
+use Prim.Native.Nat.{_≤_}
+use lib.ListN.{length}
+use lib.Seq.{length-take-le, take-at}
+use native.Mathlib.Omega.{arith}
+use Rattle.model.specs.Calls.{decodeFits, decodeAnswer}
+use Rattle.model.specs.Decoder.{stateBy}
+use Rattle.params.specs.Codes.{codeBy}
+use Rattle.theory.specs.Answers.{Taken, decode-taken}
+use Rattle.theory.specs.Outcomes.{left-as-lent, left-as-done}
+use Rattle.theory.specs.Statements.{decode-falls, decode-recovers}
+use Rattle.visits.specs.Progress.{Progress}
+use Rattle.zeros.specs.Counts.{length-zeroCounts}
+use Rattle.receiver.specs.Received.{countsOf, ranOutcome, left-by}
+use Rattle.receiver.proofs.decode_with.Statement.{statement}
+use Rattle.receiver.proofs.decode_with.Tie as tie
+
+decode-fits-requires : tie.Need-decode-fits-requires
+decode-fits-requires c κs = search needs
+
+decode-answer-requires : tie.Need-decode-answer-requires
+decode-answer-requires c κs = search needs
+
+-- the start, from where the number is known
+abbrev start : tie.After-decode-answer → tie.Start
+start c = c .before .before .before .before .before .before .before .before .before
+
+-- the number returned is decode's
+number : (p : tie.After-decode-answer)
+    → let a = start p .args in
+    let code = codeBy (a .code) (a .positions .now) in
+    let lent = stateBy (a .result .now) (a .syndrome .now) (a .difference .now) in
+    p .decode-answer .result ≡ decodeAnswer code (a .others && decodeFits code (a .page .now) lent) (a .page .now) (a .thresholds .now)
+number p =
+    let a = start p .args in
+    p .decode-answer .ensures ∙ ap (λ (b : Bool). decodeAnswer (codeBy (a .code) (a .positions .now)) b (a .page .now) (a .thresholds .now)) (p .before .decode-fits .ensures)
+
+opened-requires : tie.Need-opened-requires
+opened-requires c κs = search needs
+
+returns : tie.Need-returns
+unfolding ranOutcome
+returns c =
+    let refused = c .before in
+    rw (c .opened .ensures) (
+      left-as-lent _ _ _ _ (number (refused .before)) (refused .if1 .taken),
+      (λ e. absurd (refused .if1 .taken e), (λ e. absurd (refused .if1 .taken e), λ e. absurd (refused .if1 .taken e))),
+    )
+
+-- what is decoded where it is not refused, and that the buffer for the zeros is large enough
+taken : (c : tie.Else1)
+    → let a = start (c .before) .args in
+    Taken (codeBy (a .code) (a .positions .now)) (a .page .now) (a .thresholds .now) (stateBy (a .result .now) (a .syndrome .now) (a .difference .now))
+taken c =
+    let a = start (c .before) .args in
+    decode-taken _ (a .others) (a .page .now) (a .thresholds .now) _ (sym (number (c .before)) ∙ c .if1 .left)
+
+room : (c : tie.Else1) → let a = start (c .before) .args in a .code .k ≤ length (a .zeros .now)
+room c = start (c .before) .pre (taken c .opens .usable .table .k-high)
+
+slice-relend-prefix-decode-page : tie.Need-slice-relend-prefix-decode-page
+slice-relend-prefix-decode-page c = room c
+
+slice-aggregate-decode-page : tie.Need-slice-aggregate-decode-page
+slice-aggregate-decode-page c = sym (length-take-le _ _ (room (c .before)))
+
+decode-page-requires : tie.Need-decode-page-requires
+decode-page-requires c κs = let e = c .before .before .before .before in (taken e, length-take-le _ _ (room e))
+
+same-length : tie.Need-same-length
+same-length c = search needs
+
+same-length-2 : tie.Need-same-length-2
+same-length-2 c = search needs
+
+same-length-3 : tie.Need-same-length-3
+same-length-3 c = search needs
+
+same-length-4 : tie.Need-same-length-4
+same-length-4 c = search needs
+
+returns-2 : tie.Need-returns-2
+unfolding ranOutcome
+returns-2 c =
+    let d = c .before .before .before .before .before .before .before .before in
+    let done = d .before .before .before .before .before in
+    let p = done .before in
+    let a = start p .args in
+    let code = codeBy (a .code) (a .positions .now) in
+    let lent = stateBy (a .result .now) (a .syndrome .now) (a .difference .now) in
+    let n = sym (done .if1 .left) ∙ number p in
+    let e = d .decode-page .ensures .0 in (
+      left-as-done _ _ _ _ n (λ i. record { state = e i .state; counts = countsOf (e i .tally) }),
+      (
+        λ z. left-by code (a .page .now) (a .thresholds .now) lent (taken done .opens) _ _ e (omega (arith, room done, same-length c))
+            (λ m. let z = d .decode-page .ensures .1 m in take-at _ _ _ (ap length z ∙ length-zeroCounts _ _) ∙ z),
+        (
+          λ z. rw (ap (λ (x : Progress). x .tally) e) (decode-falls code (a .others) (a .page .now) (a .thresholds .now) lent (sym n)),
+          λ z. rw (ap (λ (x : Progress). x .state .result) e) (decode-recovers code (a .others) (a .page .now) (a .thresholds .now) lent (sym n)),
+        ),
+      ),
+    )
+
+pub decode-with-spec : {M : Type 1} → statement M
+decode-with-spec =
+    tie.close
+    (tie.spec
+    decode-fits-requires
+    decode-answer-requires
+    opened-requires
+    returns
+    slice-relend-prefix-decode-page
+    slice-aggregate-decode-page
+    decode-page-requires
+    same-length
+    same-length-2
+    same-length-3
+    same-length-4
+    returns-2)
