@@ -1,12 +1,12 @@
 -- The calls: the number that each returns, and what it leaves in every lent buffer, from any values and any lists.
 use mathlib.Core.Bool.{Bool, true, not, _&&_}
 use mathlib.Core.List.{List, [], _∷_, _++_}
-use Prim.Native.Nat.{ℕ, suc}
+use Prim.Native.Nat.{ℕ, suc, _*_}
 use lib.Dec.{eqb, ltb, leb}
 use lib.IntN.{ℤ}
 use lib.ListN.{length}
 use Rattle.model.specs.Symbols.{choose}
-use Rattle.model.specs.Code.{Code, dataCount, checkCount, pageLength, checksEach, codeWord, syndrome, selfOrthogonal}
+use Rattle.model.specs.Code.{Code, dataCount, checkCount, pageLength, checksEach, branchAt, codeWord, syndrome, everyBelow, selfOrthogonal}
 use Rattle.model.specs.Decoder.{State, Counts, decodedState, decodedCounts, marginsOf}
 
 -- ---- tests
@@ -38,14 +38,27 @@ unfoldable pub allBelow : ℕ → List ℕ → Bool
 allBelow q [] = true
 allBelow q (x ∷ xs) = ltb x q && allBelow q xs
 
--- 1 to 3, by the table of quantities: q from 3 to 256, k from 1 to 4,096, J from 1 to 32
-unfoldable pub sizeTests : ℕ → ℕ → ℕ → List Test
-sizeTests q k J = test 1 (not (within 3 256 q)) ∷ test 2 (not (within 1 4096 k)) ∷ test 3 (not (within 1 32 J)) ∷ []
+-- b from 1 to 8, and b times k at most 4,096
+abbrev pub branchesFit : Code → Bool
+branchesFit c = within 1 8 (c .b) && leb (dataCount c) 4096
+
+-- the table is b runs of equal length J, from 1 to 32
+abbrev pub runsFit : Code → Bool
+runsFit c = eqb (length (c .positions)) (c .b * checksEach c) && within 1 32 (checksEach c)
+
+-- 1 to 3, by the table of quantities: q from 3 to 256, k from 1 to 4,096, J from 1 to 32;
+-- "10, after 2: b outside 1 to 8, or b times k above 4,096. 3 also if the table isn't b runs of equal length." (N2)
+unfoldable pub sizeTests : Code → List Test
+sizeTests c =
+    test 1 (not (within 3 256 (c .q))) ∷ test 2 (not (within 1 4096 (c .k))) ∷ test 10 (not (branchesFit c)) ∷ test 3 (not (runsFit c)) ∷ []
+
+-- the positions of each run are below k and ascend
+abbrev pub tableFits : Code → Bool
+tableFits c = everyBelow (c .b) (λ r. positionsFit (c .k) 0 (branchAt c r))
 
 -- 1 to 5, which all calls have. 4: positions "strictly ascending, each below k"; 5: "the table isn't self-orthogonal"
 unfoldable pub tableTests : Code → List Test
-tableTests c =
-    sizeTests (c .q) (c .k) (checksEach c) ++ (test 4 (not (positionsFit (c .k) 0 (c .positions))) ∷ test 5 (not (selfOrthogonal c)) ∷ [])
+tableTests c = sizeTests c ++ (test 4 (not (tableFits c)) ∷ test 5 (not (selfOrthogonal c)) ∷ [])
 
 -- 6: "a lent buffer is not exactly as long as the call needs", where `fits` says whether all of them are; 7: "a symbol of the input is q or more"
 unfoldable pub pageTests : Code → Bool → List ℕ → List Test
@@ -55,7 +68,7 @@ pageTests c fits input = tableTests c ++ (test 6 (not fits) ∷ test 7 (not (all
 unfoldable pub thresholdTests : List ℕ → List Test
 thresholdTests thresholds = test 8 (not (within 1 64 (length thresholds))) ∷ test 9 (not (allBelow 33 thresholds)) ∷ []
 
--- ---- the lengths that a call needs: "page 2 times k; data, result, S and D k each"
+-- ---- the lengths that a call needs: "Data, result, D and margins have b times k places, and a page has (b + 1) times k"; S has k
 
 -- encode reads data and lends a page
 abbrev pub encodeFits : Code → ℕ → ℕ → Bool
@@ -119,7 +132,7 @@ abbrev pub noCounts : Counts
 noCounts = record { passes = 0; changes = 0; start = 0; end = 0 }
 
 -- "Afterwards the lent buffers hold the result, S and D"; "Decode fills one more lent buffer from the S and D it hands back";
--- "6 covers a margin buffer that isn't k long"
+-- 6 covers a margin buffer that isn't b times k long
 unfoldable pub decodeOutcome : Code → List ℕ → List ℕ → State → List ℤ → Outcome (Decoded (List ℤ) Counts)
 decodeOutcome c page thresholds lent margins =
     let st = decodedState c thresholds page in

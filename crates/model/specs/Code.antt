@@ -2,58 +2,69 @@
 use mathlib.Core.Logic.{_≢_}
 use mathlib.Core.Bool.{Bool, true, _&&_, _||_}
 use mathlib.Core.List.{List, [], _∷_, _++_}
-use Prim.Native.Nat.{ℕ, zero, suc, _+_, _%_, _<_, _≤_}
+use Prim.Native.Nat.{ℕ, zero, suc, _+_, _*_, _/_, _%_, _<_, _≤_}
 use lib.Dec.{eqb, leb}
 use lib.ListN.{length, getD, take, drop}
-use Rattle.model.specs.Symbols.{choose, sub, count, sumOver, tabulate}
+use Rattle.model.specs.Symbols.{choose, sub, count, sumOver, sumBelow, tabulate, joinBelow}
 
--- "q is the alphabet size", "k is the number of data symbols and also the number of check symbols", and the positions of the code table
+-- "q is the alphabet size"; "A code may have b data branches of k symbols each, with k checks for all of them.
+-- The table holds b runs of J positions" (N2): the positions of all runs, one run after the other
 pub record Code : Type 0 where
   pub q : ℕ
   pub k : ℕ
+  pub b : ℕ
   pub positions : List ℕ
 
--- the code of a call's q, k and table
-abbrev pub codeOf : ℕ → ℕ → List ℕ → Code
-codeOf q k positions = record { q = q; k = k; positions = positions }
+-- the code of a call's q, k, b and table
+abbrev pub codeOf : ℕ → ℕ → ℕ → List ℕ → Code
+codeOf q k b positions = record { q = q; k = k; b = b; positions = positions }
 
--- The sizes: the number of data symbols, of check symbols, and of the symbols of a page.
+-- "Data, result, D and margins have b times k places"
 abbrev pub dataCount : Code → ℕ
-dataCount c = c .k
+dataCount c = c .b * c .k
 
 abbrev pub checkCount : Code → ℕ
 checkCount c = c .k
 
--- "A page (code word) has n = 2 times k symbols"
+-- "a page has (b + 1) times k"
 abbrev pub pageLength : Code → ℕ
 pageLength c = dataCount c + checkCount c
 
--- "J is the number of positions in the code table": so many checks has each data symbol
+-- J, the number of positions in a run: so many checks has each data symbol
 abbrev pub checksEach : Code → ℕ
-checksEach c = length (c .positions)
+checksEach c = length (c .positions) / c .b
+
+-- the run of positions of branch r
+unfoldable pub branchAt : Code → ℕ → List ℕ
+branchAt c r = take (checksEach c) (drop (r * checksEach c) (c .positions))
 
 -- the (j + p) mod k over a list of positions p
 unfoldable pub checksBy : ℕ → List ℕ → ℕ → List ℕ
 checksBy k [] j = []
 checksBy k (p ∷ ps) j = (j + p) % k ∷ checksBy k ps j
 
--- "data symbol j is in the checks (j + p) mod k, and no others. We call these its checks."
-abbrev pub checksOf : Code → ℕ → List ℕ
-checksOf c j = checksBy (c .k) (c .positions) j
+-- "data symbol j is in the checks (j + p) mod k, and no others. We call these its checks.":
+-- data symbol j is symbol j mod k of branch j / k, and p are the positions of this branch
+unfoldable pub checksOf : Code → ℕ → List ℕ
+checksOf c j = checksBy (c .k) (branchAt c (j / c .k)) (j % c .k)
 
--- the sum of u((i − p) mod k) over a list of positions p, as a number
+-- the sum of u((i − p) mod k) over a list of positions p, as a number: of the k data symbols u of one branch
 unfoldable pub checkSumBy : ℕ → List ℕ → List ℕ → ℕ → ℕ
 checkSumBy k ps u i = sumOver ps (λ p. getD u (sub k i p) 0)
 
--- "Check v(i) is the sum of u((i − p) mod k) over all positions p of the table."
+-- the k data symbols of branch r
+abbrev pub branchData : Code → List ℕ → ℕ → List ℕ
+branchData c u r = take (c .k) (drop (r * c .k) u)
+
+-- "Check v(i) is the sum of u((i − p) mod k) over all positions p of the table." "A check is the sum over all branches."
 unfoldable pub checkSymbol : Code → List ℕ → ℕ → ℕ
-checkSymbol c u i = checkSumBy (c .k) (c .positions) u i % c .q
+checkSymbol c u i = sumBelow (c .b) (λ r. checkSumBy (c .k) (branchAt c r) (branchData c u r) i) % c .q
 
 -- v(0) to v(k − 1)
 unfoldable pub checkSymbols : Code → List ℕ → List ℕ
 checkSymbols c u = tabulate (checkCount c) (λ i. checkSymbol c u i)
 
--- "data u(0) to u(k − 1), then checks v(0) to v(k − 1)"
+-- "Visits and the page take the branches in turn, the page then the checks."
 unfoldable pub codeWord : Code → List ℕ → List ℕ
 codeWord c u = u ++ checkSymbols c u
 
@@ -72,7 +83,7 @@ syndrome c page = tabulate (checkCount c) (λ i. sub (c .q) (checkSymbol c (data
 unfoldable pub shared : Code → ℕ → ℕ → ℕ
 shared c j l = sumOver (checksOf c j) (λ i. count i (checksOf c l))
 
--- "The table is self-orthogonal when any two different data symbols have at most one check in common."
+-- "Any two different data symbols, of one branch or of two, share at most one check."
 abbrev pub SelfOrthogonal : Code → Type 0
 SelfOrthogonal c = (j l : ℕ) → j < dataCount c → l < dataCount c → l ≢ j → shared c j l ≤ 1
 
@@ -95,9 +106,9 @@ unfoldable pub differencesBy : ℕ → List ℕ → List ℕ → List ℕ
 differencesBy k [] bs = []
 differencesBy k (a ∷ ps) bs = differencesFrom k a bs ++ differencesBy k ps bs
 
--- "over all ordered pairs of different positions a, b, the values (a − b) mod k"
+-- "over all ordered pairs of different positions a, b, the values (a − b) mod k": both of one run, over all runs together
 abbrev pub differences : Code → List ℕ
-differences c = differencesBy (c .k) (c .positions) (c .positions)
+differences c = joinBelow (c .b) (λ r. differencesBy (c .k) (branchAt c r) (branchAt c r))
 
 -- no value stands twice in a list
 unfoldable pub allDifferent : List ℕ → Bool

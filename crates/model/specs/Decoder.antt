@@ -77,7 +77,7 @@ thresholdsRun q checks js (t ∷ ts) st =
     let later = thresholdsRun q checks js ts (after q checks (pass js t) st) in
     t ∷ choose (eqb (changeCount q checks (pass js t) st) 0) [] later
 
--- "data symbols 0, 1, .. k − 1 in that order"
+-- "data symbols 0, 1, .. in that order", and so "the branches in turn" (N2)
 abbrev pub dataSymbols : Code → List ℕ
 dataSymbols c = tabulate (dataCount c) (λ j. j)
 

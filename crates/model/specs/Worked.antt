@@ -8,8 +8,8 @@ use native.Mathlib.Nat.{mod-eq-of-lt}
 use native.Mathlib.Omega.{arith}
 use lib.Dec.{T}
 use lib.IntN.{ℤ, pos, negsuc}
-use Rattle.model.specs.Symbols.{sub, same, differ, count, distance, sumOver, tabulate, symbolsAt, subtractAt}
-use Rattle.model.specs.Code.{Code, codeOf, dataCount, checkCount, pageLength, checksOf, checksBy, checkSumBy, checkSymbol, checkSymbols, codeWord, syndrome, shared, everyBelow, selfOrthogonal, differencesFrom, differencesBy, differences, allDifferent}
+use Rattle.model.specs.Symbols.{sub, same, differ, count, distance, sumOver, sumBelow, joinBelow, tabulate, symbolsAt, subtractAt}
+use Rattle.model.specs.Code.{Code, codeOf, dataCount, checkCount, pageLength, branchAt, checksBy, checksOf, checkSumBy, checkSymbol, checkSymbols, codeWord, syndrome, shared, everyBelow, selfOrthogonal, differencesFrom, differencesBy, differences, allDifferent}
 use Rattle.model.specs.Vote.{firstOf, leader, leadCount, otherCount, nextCount, Votes, votes, margin}
 use Rattle.model.specs.Decoder.{stateBy, State, Counts, estimates, isChange, change, changes, visit, after, changeCount, pass, passes, thresholdsRun, opened, passesOf, run, distanceTo, decodedState, decodedCounts, marginsOf}
 use Rattle.model.specs.Calls.{firstThatApplies, within, positionsFit, allBelow, sizeTests, tableTests, pageTests, thresholdTests, tableAnswer, encodeAnswer, decodeAnswer, Outcome, outcome, encodeOutcome, Decoded, decodeOutcome}
@@ -44,9 +44,9 @@ lentState c = stateBy (lent (dataCount c)) (lent (checkCount c)) (lent (dataCoun
 -- the row with what the definitions give for its inputs
 computed : Row → Row
 unfolding firstThatApplies within positionsFit allBelow sizeTests tableTests pageTests thresholdTests tableAnswer encodeAnswer decodeAnswer outcome encodeOutcome decodeOutcome
-    checksBy checkSumBy checkSymbol checkSymbols codeWord syndrome shared everyBelow selfOrthogonal differencesFrom differencesBy allDifferent
+    branchAt checksBy checksOf checkSumBy checkSymbol checkSymbols codeWord syndrome shared everyBelow selfOrthogonal differencesFrom differencesBy allDifferent
     firstOf leader leadCount otherCount nextCount estimates isChange change changes visit after changeCount pass passes thresholdsRun opened passesOf run distanceTo decodedState decodedCounts margin marginsOf
-    sub same differ count distance sumOver tabulate symbolsAt subtractAt times
+    sub same differ count distance sumOver sumBelow joinBelow tabulate symbolsAt subtractAt times
 computed (table c a d) = table c (tableAnswer c) (allDifferent (differences c))
 computed (encoded c u g) = encoded c u (encodeOutcome c u (lent (pageLength c)))
 computed (decoded c ts page g) =
@@ -54,9 +54,13 @@ computed (decoded c ts page g) =
 computed (tested c ts page m n) = tested c ts page m (decodeOutcome c page ts (lentState c) (map pos (lent m)) .number)
 computed (voted es t g m b) = voted es t (votes es) (margin es) (isChange t es)
 
+-- a code of one branch, as document 01 has them
+abbrev oneBranch : ℕ → ℕ → List ℕ → Code
+oneBranch q k positions = codeOf q k 1 positions
+
 -- "Code A is k = 13 with positions 0, 1, 4, 6."
 codeA : Code
-codeA = codeOf 256 13 (0 ∷ 1 ∷ 4 ∷ 6 ∷ [])
+codeA = oneBranch 256 13 (0 ∷ 1 ∷ 4 ∷ 6 ∷ [])
 
 accepted : List ℕ → Outcome (List ℕ)
 accepted page = record { number = 0; left = page }
@@ -79,14 +83,14 @@ rows : List Row
 unfolding codeA accepted found times tabulate
 rows =
     -- 1
-    table (codeOf 256 13 (0 ∷ 1 ∷ 4 ∷ 6 ∷ [])) 0 true
-    ∷ table (codeOf 256 12 (0 ∷ 1 ∷ 4 ∷ 6 ∷ [])) 5 false
+    table (oneBranch 256 13 (0 ∷ 1 ∷ 4 ∷ 6 ∷ [])) 0 true
+    ∷ table (oneBranch 256 12 (0 ∷ 1 ∷ 4 ∷ 6 ∷ [])) 5 false
     -- 2
-    ∷ table (codeOf 256 7 (0 ∷ 1 ∷ 3 ∷ [])) 0 true
-    ∷ table (codeOf 256 6 (0 ∷ 1 ∷ 3 ∷ [])) 5 false
+    ∷ table (oneBranch 256 7 (0 ∷ 1 ∷ 3 ∷ [])) 0 true
+    ∷ table (oneBranch 256 6 (0 ∷ 1 ∷ 3 ∷ [])) 5 false
     -- 3
-    ∷ table (codeOf 256 1 (0 ∷ [])) 0 true
-    ∷ encoded (codeOf 256 1 (0 ∷ [])) (9 ∷ []) (accepted (9 ∷ 9 ∷ []))
+    ∷ table (oneBranch 256 1 (0 ∷ [])) 0 true
+    ∷ encoded (oneBranch 256 1 (0 ∷ [])) (9 ∷ []) (accepted (9 ∷ 9 ∷ []))
     -- 4
     ∷ encoded codeA (7 ∷ zeros 12) (accepted (7 ∷ zeros 12 ++ (7 ∷ 7 ∷ 0 ∷ 0 ∷ 7 ∷ 0 ∷ 7 ∷ zeros 6)))
     -- 5
@@ -111,14 +115,18 @@ unfolding computed rows
 worked = refl
 
 -- Case 3 for every q and every symbol: k = 1, position 0, "the symbol twice".
-twice : (q x : ℕ) → x < q → codeWord (codeOf q 1 (0 ∷ [])) (x ∷ []) ≡ x ∷ x ∷ []
-unfolding codeWord checkSymbols checkSymbol checkSumBy sumOver tabulate sub
-twice q x h = ap (λ (v : ℕ). x ∷ v ∷ []) (ap (λ (n : ℕ). n % q) (let e : x + 0 ≡ x = omega arith in e) ∙ mod-eq-of-lt h)
+twice : (q x : ℕ) → x < q → codeWord (oneBranch q 1 (0 ∷ [])) (x ∷ []) ≡ x ∷ x ∷ []
+unfolding codeWord checkSymbols checkSymbol branchAt checkSumBy sumOver sumBelow tabulate sub
+twice q x h = ap (λ (v : ℕ). x ∷ v ∷ []) (ap (λ (n : ℕ). n % q) (let e : 0 + (x + 0) ≡ x = omega arith in e) ∙ mod-eq-of-lt h)
+
+-- N2's code of two branches
+twoRuns : Code
+twoRuns = codeOf 256 13 2 (0 ∷ 1 ∷ 0 ∷ 2 ∷ [])
 
 -- Rows that pin misreadings: case 14 tells a vote by absolute majority from the steps and pins the tie; a page of three checks tells votes
 -- taken from the syndrome as it was at the start of the pass.
 misreadings : List Row
-unfolding codeA found vote times tabulate
+unfolding codeA twoRuns accepted found vote times tabulate
 misreadings =
     -- 14
     voted (2 ∷ 2 ∷ 1 ∷ 1 ∷ 0 ∷ []) 0 (vote 1 2 2 1) (negsuc 0) false
@@ -132,8 +140,22 @@ misreadings =
     ∷ tested codeA [] (zeros 26) 12 6
     -- k = 3, positions 0, 1, all three received checks 251, so s is 5 everywhere: symbol 0 has estimates 0, 5, 5 and changes,
     -- which leaves s(0) and s(1) 0, so that symbols 1 and 2 have estimates 0, 0, 5 and stay
-    ∷ decoded (codeOf 256 3 (0 ∷ 1 ∷ [])) (0 ∷ []) (zeros 3 ++ (251 ∷ 251 ∷ 251 ∷ []))
+    ∷ decoded (oneBranch 256 3 (0 ∷ 1 ∷ [])) (0 ∷ []) (zeros 3 ++ (251 ∷ 251 ∷ 251 ∷ []))
     (found (251 ∷ zeros 2) (0 ∷ 0 ∷ 5 ∷ []) (251 ∷ zeros 2) (map pos (times 3 1)) 1 1 3 2)
+    -- N2: "With k = 13, runs 0, 1 and 0, 2 are accepted; runs 0, 1 and 0, 1 are not."
+    ∷ table twoRuns 0 true
+    ∷ table (codeOf 256 13 2 (0 ∷ 1 ∷ 0 ∷ 1 ∷ [])) 5 false
+    -- u(13), symbol 0 of branch 1, is in checks 0 and 2
+    ∷ encoded twoRuns (7 ∷ zeros 12 ++ (250 ∷ zeros 12)) (accepted (7 ∷ zeros 12 ++ (250 ∷ zeros 12 ++ (1 ∷ 7 ∷ 250 ∷ zeros 10))))
+    -- received u(13) is 7: lead 2 − 1 = 1 is above 0
+    ∷ decoded twoRuns (0 ∷ 0 ∷ []) (zeros 13 ++ (7 ∷ zeros 25))
+    (found (zeros 26) (zeros 13) (zeros 13 ++ (249 ∷ zeros 12)) (map pos (times 13 3 ++ (1 ∷ times 12 3))) 2 1 2 1)
+    -- 10: no branch, 9 branches, 2 times 2,049 symbols, each before 3; 3: 3 positions for 2 branches; 4: within each run
+    ∷ table (codeOf 256 13 0 (0 ∷ 1 ∷ [])) 10 true
+    ∷ table (codeOf 256 13 9 (0 ∷ [])) 10 true
+    ∷ table (codeOf 256 2049 2 (0 ∷ [])) 10 true
+    ∷ table (codeOf 256 13 2 (0 ∷ 1 ∷ 2 ∷ [])) 3 true
+    ∷ table (codeOf 256 13 2 (0 ∷ 1 ∷ 2 ∷ 2 ∷ [])) 4 true
     ∷ []
 
 told-apart : map computed misreadings ≡ misreadings
@@ -147,8 +169,8 @@ pageSix : List ℕ
 pageSix = 7 ∷ zeros 25
 
 falls-by-three : VisitFalls 256 (checksOf codeA) (distanceTo codeA pageSix) (record { symbol = 0; threshold = 2 }) (opened codeA pageSix)
-unfolding codeA pageSix times checksBy checkSumBy checkSymbol checkSymbols codeWord syndrome firstOf leader leadCount otherCount nextCount
-    estimates isChange change changes visit opened distanceTo sub same differ count distance sumOver tabulate symbolsAt subtractAt
+unfolding codeA pageSix times branchAt checksBy checksOf checkSumBy checkSymbol checkSymbols codeWord syndrome firstOf leader leadCount otherCount nextCount
+    estimates isChange change changes visit opened distanceTo sub same differ count distance sumOver sumBelow tabulate symbolsAt subtractAt
 falls-by-three = record { lowered = (λ e. let f : 1 + 2 < 4 = omega arith in f); left = (λ e. absurd (subst T e tt)) }
 
 -- code A has J = 4: two replaced symbols are within the bound at threshold 0, and not at threshold 1

@@ -6,4 +6,4 @@ use Rattle.params.specs.declared.Params.{Params}
 
 -- the code of parameters p with a table of positions
 abbrev pub codeBy : Params → List ℕ → Code
-codeBy p positions = codeOf (p .q) (p .k) positions
+codeBy p positions = codeOf (p .q) (p .k) (p .b) positions

@@ -3,23 +3,23 @@ use mathlib.Core.Path.{_≡_, refl, ap, sym, _∙_, subst}
 use mathlib.Core.Logic.{_≢_}
 use mathlib.Core.Bool.{Bool, true, false, not, _&&_}
 use mathlib.Core.List.{List, [], _∷_, _++_}
-use Prim.Native.Nat.{ℕ, zero, suc, _≤_, _<_}
+use Prim.Native.Nat.{ℕ, zero, suc, _*_, _≤_, _<_}
 use native.Mathlib.Decide.{ℕ-discrete}
 use native.Mathlib.Omega.{arith}
 use lib.Dec.{T, eqb, ltb, leb, eqb→eq, ltb→lt, leb→le, le→leb}
 use lib.ListN.{length, take}
 use lib.Seq.{take-at}
 use borrow.Author.Tests.{lt-leb}
-use Rattle.model.specs.Calls.{Test, test, firstThatApplies, within, positionsFit, allBelow, sizeTests, tableTests, pageTests, thresholdTests, stateFits, decodeFits, tableAnswer, encodeAnswer, decodeAnswer}
-use Rattle.model.specs.Code.{Code, dataCount, checkCount, pageLength, checksEach, checkSymbols, codeWord, dataOf, selfOrthogonal}
+use Rattle.model.specs.Calls.{Test, test, firstThatApplies, within, positionsFit, allBelow, branchesFit, runsFit, sizeTests, tableFits, tableTests, pageTests, thresholdTests, stateFits, decodeFits, tableAnswer, encodeAnswer, decodeAnswer}
+use Rattle.model.specs.Code.{Code, dataCount, checkCount, pageLength, checksEach, branchAt, checkSymbols, codeWord, dataOf, selfOrthogonal}
 use Rattle.model.specs.Decoder.{State}
 use Rattle.model.specs.Demand.{Encodes}
-use Rattle.model.specs.Limits.{Limits}
+use Rattle.model.specs.Limits.{SizeLimits, Limits}
 use Rattle.model.specs.Symbols.{choose, Below}
 use Rattle.theory.specs.Codes.{Usable, ByteCode}
-use Rattle.theory.specs.Counting.{is-true}
+use Rattle.theory.specs.Counting.{is-true, eqb-yes}
 use Rattle.theory.specs.Steps.{SymbolsBelow}
-use Rattle.theory.specs.Tables.{fit-test, orthogonal-test}
+use Rattle.theory.specs.Tables.{fit-test, every-facts, every-make, orthogonal-test}
 
 pub and-true : (a b : Bool) → (a && b) ≡ true → (a ≡ true) × (b ≡ true)
 and-true true b e = (refl, e)
@@ -116,22 +116,53 @@ all-below q pos (x ∷ xs) e (suc i) = all-below q pos xs (and-true (ltb x q) (a
 
 -- ---- the table
 
+-- what tests 2, 10 and 3 leave
+sized-facts : (c : Code) → within 1 4096 (c .k) ≡ true → branchesFit c ≡ true → runsFit c ≡ true → SizeLimits c
+sized-facts c k b r =
+    let kk = within-facts 1 4096 (c .k) k in
+    let bs = and-true (within 1 8 (c .b)) (leb (dataCount c) 4096) b in
+    let bb = within-facts 1 8 (c .b) (bs .0) in
+    let rs = and-true (eqb (length (c .positions)) (c .b * checksEach c)) (within 1 32 (checksEach c)) r in
+    let J = within-facts 1 32 (checksEach c) (rs .1) in
+    record {
+      k-low = kk .0;
+      k-high = kk .1;
+      b-low = bb .0;
+      b-high = bb .1;
+      data-high = leb→le (dataCount c) 4096 (subst T (sym (bs .1)) tt);
+      runs = eqb-true (length (c .positions)) (c .b * checksEach c) (rs .0);
+      J-low = J .0;
+      J-high = J .1;
+    }
+
+pub sizes-taken : (c : Code) → firstThatApplies (sizeTests c) ≡ 0 → SizeLimits c
+unfolding sizeTests
+sizes-taken c e =
+    let t1 = taken-by 0 (within 3 256 (c .q)) _ e in
+    let t2 = taken-by 1 (within 1 4096 (c .k)) _ (t1 .1) in
+    let t10 = taken-by 9 (branchesFit c) _ (t2 .1) in
+    let t3 = taken-by 2 (runsFit c) _ (t10 .1) in
+    sized-facts c (t2 .0) (t10 .0) (t3 .0)
+
 -- the table check answers 0 if and only if the limits hold and the test of shared checks does
 pub table-accepted : (c : Code) → tableAnswer c ≡ 0 → Limits c × (selfOrthogonal c ≡ true)
 unfolding tableAnswer tableTests sizeTests
 table-accepted c e =
     let t1 = taken-by 0 (within 3 256 (c .q)) _ e in
     let t2 = taken-by 1 (within 1 4096 (c .k)) _ (t1 .1) in
-    let t3 = taken-by 2 (within 1 32 (checksEach c)) _ (t2 .1) in
-    let t4 = taken-by 3 (positionsFit (c .k) 0 (c .positions)) _ (t3 .1) in
+    let t10 = taken-by 9 (branchesFit c) _ (t2 .1) in
+    let t3 = taken-by 2 (runsFit c) _ (t10 .1) in
+    let t4 = taken-by 3 (tableFits c) _ (t3 .1) in
     let t5 = taken-by 4 (selfOrthogonal c) [] (t4 .1) in
-    let q = within-facts 3 256 (c .q) (t1 .0) in
-    let k = within-facts 1 4096 (c .k) (t2 .0) in
-    let J = within-facts 1 32 (checksEach c) (t3 .0) in (
+    let q = within-facts 3 256 (c .q) (t1 .0) in (
       record {
         q-low = q .0;
         q-high = q .1;
-        table = record { k-low = k .0; k-high = k .1; J-low = J .0; J-high = J .1; ascending = fit-test (c .k) (c .positions) .0 (t4 .0) };
+        table = record {
+          sizes = sized-facts c (t2 .0) (t10 .0) (t3 .0);
+          ascending = (λ r h. fit-test (c .k) (branchAt c r) .0
+              (is-true _ (every-facts (c .b) (λ r. positionsFit (c .k) 0 (branchAt c r)) (subst T (sym (t4 .0)) tt) r h)));
+        };
       },
       t5 .0,
     )
@@ -139,11 +170,14 @@ table-accepted c e =
 pub table-accepts : (c : Code) → Limits c → selfOrthogonal c ≡ true → tableAnswer c ≡ 0
 unfolding tableAnswer tableTests sizeTests
 table-accepts c l o =
-    let t = l .table in
+    let t = l .table .sizes in
     passed-by 1 (within 3 256 (c .q)) _ (within-make 3 256 (c .q) (l .q-low) (l .q-high))
     ∙ passed-by 2 (within 1 4096 (c .k)) _ (within-make 1 4096 (c .k) (t .k-low) (t .k-high))
-    ∙ passed-by 3 (within 1 32 (checksEach c)) _ (within-make 1 32 (checksEach c) (t .J-low) (t .J-high))
-    ∙ passed-by 4 (positionsFit (c .k) 0 (c .positions)) _ (fit-test (c .k) (c .positions) .1 (t .ascending))
+    ∙ passed-by 10 (branchesFit c) _
+    (rw (within-make 1 8 (c .b) (t .b-low) (t .b-high)) (is-true (leb (dataCount c) 4096) (le→leb (dataCount c) 4096 (t .data-high))))
+    ∙ passed-by 3 (runsFit c) _ (rw (eqb-yes (length (c .positions)) (c .b * checksEach c) (t .runs)) (within-make 1 32 (checksEach c) (t .J-low) (t .J-high)))
+    ∙ passed-by 4 (tableFits c) _
+    (is-true _ (every-make (c .b) (λ r. positionsFit (c .k) 0 (branchAt c r)) (λ r h. subst T (sym (fit-test (c .k) (branchAt c r) .1 (l .table .ascending r h))) tt)))
     ∙ passed-by 5 (selfOrthogonal c) [] o
     ∙ nothing-applies
 

@@ -1,19 +1,20 @@
 -- A code as an incidence of its data symbols and checks: its check symbols, code words and opened states.
-use mathlib.Core.Path.{_≡_, ap, sym}
+use mathlib.Core.Path.{_≡_, ap, _∙_}
 use mathlib.Core.List.{List, _++_}
-use Prim.Native.Nat.{ℕ, _%_, _≤_, _<_}
+use Prim.Native.Nat.{ℕ, _/_, _%_, _≤_, _<_}
+use native.Mathlib.Nat.{mod-lt}
 use native.Mathlib.Omega.{arith}
 use lib.ListN.{getD}
-use Rattle.model.specs.Code.{Code, dataCount, checkCount, checksEach, checksOf, checkSymbol, checkSymbols, codeWord, dataOf, receivedChecks, syndrome, shared, SelfOrthogonal}
+use Rattle.model.specs.Code.{Code, dataCount, checkCount, checksEach, branchAt, checksOf, checkSymbol, checkSymbols, codeWord, dataOf, receivedChecks, syndrome, shared, SelfOrthogonal}
 use Rattle.model.specs.Decoder.{opened}
 use Rattle.model.specs.Limits.{TableLimits}
 use Rattle.model.specs.Symbols.{sub, tabulate}
-use Rattle.theory.specs.Circulant.{table-sum, length-checksBy, inside-checksBy, apart-checksBy}
+use Rattle.theory.specs.Branches.{branch-length, branch-low, branch-apart, branch-of, branch-sum}
+use Rattle.theory.specs.Circulant.{length-checksBy, inside-checksBy, apart-checksBy}
 use Rattle.theory.specs.Distance.{tabulate-ext, checkSymbolsOf, wordOf}
 use Rattle.theory.specs.Falling.{Incidence}
 use Rattle.theory.specs.Page.{openedBy}
 use Rattle.theory.specs.Steps.{checkSum}
-use Rattle.theory.specs.Tables.{ascending-facts}
 
 -- what the theorems, and the functions below the calls, ask of a code. The limits 3 to 256 of q stand in the tests alone.
 pub record Usable (c : Code) : Type 0 where
@@ -29,14 +30,16 @@ pub record ByteCode (c : Code) : Type 0 where
 
 -- the checks of a code are an incidence of its data symbols
 pub code-incidence : (c : Code) → Usable c → Incidence (c .q) (dataCount c) (checkCount c) (checksEach c) (checksOf c)
-unfolding shared
+unfolding shared checksOf
 code-incidence c l =
-    let f = ascending-facts (c .k) (c .positions) (l .table .ascending) in
+    let t = l .table in
+    let run : ℕ → List ℕ = (λ j. branchAt c (j / c .k)) in
     record {
       pos = omega (arith, l .q-low);
-      size = (λ j h. length-checksBy (c .k) (c .positions) j);
-      inside = (λ j h. inside-checksBy (c .k) (l .table .k-low) (c .positions) j);
-      apart = (λ j h. apart-checksBy (c .k) (l .table .k-low) (c .positions) (f .0) (f .1) j h);
+      size = (λ j h. length-checksBy (c .k) (run j) (j % c .k) ∙ branch-length c t (j / c .k) (branch-of c t j h));
+      inside = (λ j h. inside-checksBy (c .k) (t .sizes .k-low) (run j) (j % c .k));
+      apart = (λ j h. apart-checksBy (c .k) (t .sizes .k-low) (run j) (branch-low c t (j / c .k) (branch-of c t j h)) (branch-apart c t (j / c .k) (branch-of c t j h)) (j % c .k)
+          (mod-lt j (t .sizes .k-low)));
       cross = l .orthogonal;
     }
 
@@ -45,7 +48,7 @@ module _ (c : Code) (l : TableLimits c) where
   pub check-symbol : (u : List ℕ) (i : ℕ) → i < checkCount c → checkSymbol c u i ≡ checkSum (dataCount c) (checksOf c) u i % c .q
   unfolding checkSymbol
   check-symbol u i h =
-      ap (λ (s : ℕ). s % c .q) (sym (table-sum (c .k) (l .k-low) (c .positions) (ascending-facts (c .k) (c .positions) (l .ascending) .0) u i h))
+      ap (λ (s : ℕ). s % c .q) (branch-sum c l u i h)
 
   pub check-symbols : (u : List ℕ) → checkSymbols c u ≡ checkSymbolsOf (c .q) (dataCount c) (checkCount c) (checksOf c) u
   unfolding checkSymbols checkSymbolsOf

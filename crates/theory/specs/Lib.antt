@@ -10,8 +10,10 @@ pub mod Recovery
 pub mod Page
 pub mod Circulant
 pub mod Tables
+pub mod Branches
 pub mod Codes
 pub mod Answers
+pub mod OneBranch
 pub mod Outcomes
 pub mod Runs
 pub mod Decoding

@@ -12,9 +12,9 @@ use lib.ListN.{length, getD}
 use lib.Seq.{getD-set-same, getD-set-other, ext-getD}
 use Rattle.model.specs.Code.{syndrome, shared}
 use Rattle.model.specs.Decoder.{State, Visit, estimates, isChange, change, changes, visit, after}
-use Rattle.model.specs.Symbols.{choose, sub, differ, count, distance, sumOver, tabulate}
+use Rattle.model.specs.Symbols.{choose, sub, differ, count, distance, sumOver, sumBelow, tabulate}
 use Rattle.model.specs.Vote.{leader, votes}
-use Rattle.theory.specs.Counting.{differ-no, differ-yes, length-symbolsAt, sumBelow, sum-ext, sum-le, sum-off, sum-term, sumOver-le, sumOver-add, sumOver-swap, sumOver-scale, distance-sum, differ-le, distinct-count, sumOver-sub, all-of, all-at, misses, misses-symbolsAt}
+use Rattle.theory.specs.Counting.{differ-no, differ-yes, length-symbolsAt, sum-ext, sum-le, sum-off, sum-term, sumOver-le, sumOver-add, sumOver-swap, sumOver-scale, distance-sum, differ-le, distinct-count, sumOver-sub, all-of, all-at, misses, misses-symbolsAt}
 use Rattle.theory.specs.Distance.{length-tabulate, getD-tabulate, checkSymbolsOf, Tied, Received}
 use Rattle.theory.specs.Falling.{Incidence, InRange, choose-case, isChange-make, isChange-zero, visit-sized, visit-tied}
 use Rattle.theory.specs.Modulo.{by-eq, sub-self, sub-zero-eq, sub-cross, sub-sub}

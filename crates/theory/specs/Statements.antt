@@ -17,6 +17,7 @@ use Rattle.model.specs.Limits.{TableLimits, Limits}
 use Rattle.model.specs.Symbols.{choose, count, addEach, subEach}
 use Rattle.model.specs.Vote.{leader, leadCount, nextCount, votes, margin}
 use Rattle.theory.specs.Answers.{table-accepted, table-accepts, table-usable, Taken, decode-taken}
+use Rattle.theory.specs.Branches.{orthogonal-differences}
 use Rattle.theory.specs.Codes.{code-incidence, check-symbol, check-symbols}
 use Rattle.theory.specs.Counting.{All, length-symbolsAt}
 use Rattle.theory.specs.Decoding.{code-falls, code-received, code-sized, code-tied, code-distance, code-recovers}
@@ -26,7 +27,7 @@ use Rattle.theory.specs.Margins.{margin-low, margin-high, margin-top, ma
 use Rattle.theory.specs.Moments.{result-is, syndrome-is, runs-few, first-run, changes-few, weight-few}
 use Rattle.theory.specs.Runs.{range-passes, symbols-range, symbols-visited}
 use Rattle.theory.specs.Steps.{checkSum, SymbolsBelow, Sized, stateWeight}
-use Rattle.theory.specs.Tables.{orthogonal-test, orthogonal-differences}
+use Rattle.theory.specs.Tables.{orthogonal-test}
 use Rattle.theory.specs.Voting.{leader-ahead, lead-max, next-max, next-least, leader-mem}
 
 -- ---- 1. the table check and the code
@@ -38,9 +39,9 @@ accepted c = (
   λ p. table-accepts c (p .0) (orthogonal-test c .1 (p .1)),
 )
 
--- Within the limits that is equal to all (a − b) mod k over ordered pairs of different positions being different.
+-- Within the limits that is equal to all (a − b) mod k being different, over ordered pairs of different positions of one run, over all runs together.
 pub by-differences : (c : Code) → TableLimits c → SelfOrthogonal c ↔ (allDifferent (differences c) ≡ true)
-by-differences c l = orthogonal-differences c (l .k-low) (l .ascending)
+by-differences c l = orthogonal-differences c l
 
 -- A check, by positions, is the sum over the data symbols that have it among their checks.
 pub check-sum : (c : Code) → TableLimits c → (u : List ℕ) (i : ℕ) → i < checkCount c → checkSymbol c u i ≡ checkSum (dataCount c) (checksOf c) u i % c .q
@@ -134,7 +135,7 @@ module _ (c : Code) (others : Bool) (page thresholds : List ℕ) (lent : State) 
   counts-bounded =
       let l = what .opens .usable in
       let js : List ℕ = dataSymbols c in
-      let n : length js ≤ 4096 = omega (arith, length-tabulate (dataCount c) (λ j. j), l .table .k-high) in
+      let n : length js ≤ 4096 = omega (arith, length-tabulate (dataCount c) (λ j. j), l .table .sizes .data-high) in
       let few : length (passesOf c thresholds page) ≤ length thresholds = runs-few (c .q) (checksOf c) js thresholds (opened c page) in
       record {
         passes-most = omega (arith, few, what .few);
@@ -148,7 +149,8 @@ module _ (c : Code) (others : Bool) (page thresholds : List ℕ) (lent : State) 
         arith,
         code-distance c (what .opens .usable) page (what .opens .whole) vs r,
         weight-few (c .q) (dataCount c) (checkCount c) _ (code-sized c (what .opens .usable) page (what .opens .whole) vs),
-        what .opens .usable .table .k-high,
+        what .opens .usable .table .sizes .k-high,
+        what .opens .usable .table .sizes .data-high,
       )
 
 -- ---- 4. the vote

@@ -7,9 +7,9 @@ use lib.ListN.{length, getD, set, length-set}
 use lib.Seq.{getD-set-other}
 use Rattle.model.specs.Code.{syndrome}
 use Rattle.model.specs.Decoder.{State, estimates, change}
-use Rattle.model.specs.Symbols.{sub, differ, count, weight, Below, symbolsAt, subtractAt}
+use Rattle.model.specs.Symbols.{sub, differ, count, weight, Below, sumBelow, symbolsAt, subtractAt}
 use Rattle.model.specs.Vote.{otherCount}
-use Rattle.theory.specs.Counting.{same-differ, differ-iff, All, Distinct, zeros-weight, weight-set, count-mem, sumBelow}
+use Rattle.theory.specs.Counting.{same-differ, differ-iff, All, Distinct, zeros-weight, weight-set, count-mem}
 use Rattle.theory.specs.Modulo.{sub-lt, sub-self, sub-zero-eq}
 
 -- the sum that check i is before it is taken modulo q, over the m data symbols: checks l are those of data symbol l

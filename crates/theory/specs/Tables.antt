@@ -1,21 +1,21 @@
 -- The test of a table: its differences, and that it means what the code needs.
-use mathlib.Core.Path.{_≡_, refl, ap, sym, _∙_, subst}
+use mathlib.Core.Path.{_≡_, refl, sym, _∙_, subst}
 use mathlib.Core.Logic.{_≢_, _↔_}
 use mathlib.Core.Bool.{Bool, true, false, _&&_, _||_}
 use mathlib.Core.List.{List, [], _∷_, _++_}
 use Prim.Native.Nat.{ℕ, zero, suc, _+_, _≤_, _<_}
 use native.Mathlib.Nat.{not-suc-le-zero, le-of-suc-le-suc}
-use native.Mathlib.Decide.{ℕ-discrete, decLe}
+use native.Mathlib.Decide.{ℕ-discrete}
 use native.Mathlib.Omega.{arith}
 use lib.Dec.{T, eqb, ltb, leb, eqb→eq, ltb→lt, lt→ltb, leb→le, le→leb}
 use lib.ListN.{length, getD}
 use Rattle.model.specs.Calls.{positionsFit}
-use Rattle.model.specs.Code.{Code, checksBy, shared, SelfOrthogonal, everyBelow, selfOrthogonal, differencesFrom, differencesBy, differences, allDifferent}
+use Rattle.model.specs.Code.{Code, dataCount, shared, SelfOrthogonal, everyBelow, selfOrthogonal, differencesFrom, differencesBy, allDifferent}
 use Rattle.model.specs.Limits.{Ascending}
-use Rattle.model.specs.Symbols.{sub, same, count, sumOver}
-use Rattle.theory.specs.Circulant.{pairCount, common-pairs, TableLaws, once-cross}
-use Rattle.theory.specs.Counting.{is-true, eqb-yes, eqb-no, same-yes, same-no, count-nil, count-cons, All, Distinct, distinct-count}
-use Rattle.theory.specs.Modulo.{sub-lt, sub-self, sub-zero-eq, sub-no-borrow}
+use Rattle.model.specs.Symbols.{sub, same, count, sumOver, sumBelow, joinBelow}
+use Rattle.theory.specs.Circulant.{pairCount}
+use Rattle.theory.specs.Counting.{is-true, eqb-yes, eqb-no, same-yes, same-no, count-nil, count-cons, All, Distinct}
+use Rattle.theory.specs.Modulo.{sub-lt, sub-self, sub-zero-eq}
 
 -- ---- what the tests mean
 
@@ -39,6 +39,11 @@ pub count-append : (v : ℕ) (xs ys : List ℕ) → count v (xs ++ ys) ≡ count
 unfolding count
 count-append v [] ys = omega arith
 count-append v (x ∷ xs) ys = omega (arith, count-append v xs ys)
+
+pub count-join : (v n : ℕ) (f : ℕ → List ℕ) → count v (joinBelow n f) ≡ sumBelow n (λ r. count v (f r))
+unfolding joinBelow sumBelow
+count-join v zero f = count-nil v
+count-join v (suc n) f = omega (arith, count-append v (joinBelow n f) (f n), count-join v n f)
 
 pub count-distinct : (xs : List ℕ) → ((v : ℕ) → count v xs ≤ 1) → Distinct xs
 unfolding count
@@ -74,7 +79,7 @@ differencesFrom-zero k pos a ha (b ∷ rs) h = elim (ℕ-discrete a b) as (λ o.
   ))
 ]
 
-differences-zero : (k : ℕ) → zero < k → (ps rs : List ℕ) → All (λ p. p < k) ps → All (λ p. p < k) rs → count 0 (differencesBy k ps rs) ≡ 0
+pub differences-zero : (k : ℕ) → zero < k → (ps rs : List ℕ) → All (λ p. p < k) ps → All (λ p. p < k) rs → count 0 (differencesBy k ps rs) ≡ 0
 unfolding differencesBy
 differences-zero k pos [] rs h g = count-nil _
 differences-zero k pos (a ∷ ps) rs h g = omega (arith, count-append 0 (differencesFrom k a rs) (differencesBy k ps rs), differencesFrom-zero k pos a (h .0) rs g, differences-zero k pos ps rs (h .1) g)
@@ -94,47 +99,38 @@ rising-facts k b (p ∷ ps) t =
     let ih = rising-facts k (suc p) ps (f .2) in
     ((f .1, ih .0), (ih .2 p (omega arith), ih .1), λ v h. omega (arith, f .0, count-cons v p ps, same-no v p (omega (arith, f .0)), ih .2 v (omega (arith, f .0))))
 
--- each position is below the next
-rising-next : (k b : ℕ) (ps : List ℕ) → positionsFit k b ps ≡ true → (n : ℕ) → suc n < length ps → getD ps n 0 < getD ps (suc n) 0
-rising-next k b [] t n h = absurd (omega arith)
-rising-next k b (p ∷ []) t n h = absurd (omega arith)
-rising-next k b (p ∷ (r ∷ ps)) t zero h = fit-cons k (suc p) r ps (fit-cons k b p (r ∷ ps) t .2) .0
-rising-next k b (p ∷ (r ∷ ps)) t (suc n) h = rising-next k (suc p) (r ∷ ps) (fit-cons k b p (r ∷ ps) t .2) n (omega arith)
-
--- the test of positions, and what it means
 all-index : (P : ℕ → Type 0) (xs : List ℕ) → All P xs → (i : ℕ) → i < length xs → P (getD xs i 0)
 all-index P [] a i h = absurd (not-suc-le-zero h)
 all-index P (x ∷ xs) a zero h = a .0
 all-index P (x ∷ xs) a (suc i) h = all-index P xs (a .1) i (le-of-suc-le-suc h)
 
+-- each position is below the next
+pub rising-next : (k b : ℕ) (ps : List ℕ) → positionsFit k b ps ≡ true → (n : ℕ) → suc n < length ps → getD ps n 0 < getD ps (suc n) 0
+rising-next k b [] t n h = absurd (omega arith)
+rising-next k b (p ∷ []) t n h = absurd (omega arith)
+rising-next k b (p ∷ (r ∷ ps)) t zero h = fit-cons k (suc p) r ps (fit-cons k b p (r ∷ ps) t .2) .0
+rising-next k b (p ∷ (r ∷ ps)) t (suc n) h = rising-next k (suc p) (r ∷ ps) (fit-cons k b p (r ∷ ps) t .2) n (omega arith)
+
 fit-make : (k least : ℕ) (ps : List ℕ) → Ascending k ps → (0 < length ps → least ≤ getD ps 0 0) → positionsFit k least ps ≡ true
 unfolding positionsFit
 fit-make k least [] a l = refl
-fit-make k least (p ∷ ps) a l =
-    rw (is-true (ltb p k) (lt→ltb p k (a .below 0 (omega arith))), is-true (leb least p) (le→leb least p (l (omega arith))))
+fit-make k least (p ∷ ps) a l = rw (
+  is-true (ltb p k) (lt→ltb p k (a .below 0 (omega arith))),
+  is-true (leb least p) (le→leb least p (l (omega arith))),
+)
     (fit-make k (suc p) ps (record { below = (λ i h. a .below (suc i) (omega arith)); above = (λ i h. a .above (suc i) (omega arith)) })
     (λ h. a .above 0 (omega arith)))
 
+-- the test of a run says that
 pub fit-test : (k : ℕ) (ps : List ℕ) → (positionsFit k 0 ps ≡ true) ↔ Ascending k ps
 fit-test k ps = (
   λ e. record { below = all-index (λ p. p < k) ps (rising-facts k 0 ps e .0); above = rising-next k 0 ps e },
   λ a. fit-make k 0 ps a (λ h. omega arith),
 )
 
--- ascending positions are below k, and none stands twice
+-- its positions are below k, and different
 pub ascending-facts : (k : ℕ) (ps : List ℕ) → Ascending k ps → All (λ p. p < k) ps × Distinct ps
 ascending-facts k ps a = let f = rising-facts k 0 ps (fit-test k ps .1 a) in (f .0, f .1)
-
--- an accepted table is self-orthogonal
-pub accepted-table : (k : ℕ) → zero < k → (ps : List ℕ) → positionsFit k 0 ps ≡ true → T (allDifferent (differencesBy k ps ps)) → TableLaws k ps
-accepted-table k pos ps r d =
-    let f = rising-facts k 0 ps r in
-    record {
-      low = f .0;
-      apart = f .1;
-      once = (λ e h l. subst (λ (c : ℕ). c ≤ 1) (differences-count k pos ps ps (f .0) e (omega arith))
-          (distinct-count (differencesBy k ps ps) (distinct-test (differencesBy k ps ps) .0 d) e));
-    }
 
 row-far : (k : ℕ) → zero < k → (a : ℕ) (rs : List ℕ) (d : ℕ) → k ≤ d → sumOver rs (λ b. same d (sub k a b)) ≡ 0
 unfolding sumOver
@@ -143,28 +139,15 @@ row-far k pos a (b ∷ rs) d l =
     let m : sub k a b < k = sub-lt k pos a b in
     omega (arith, row-far k pos a rs d l, same-no d (sub k a b) (omega arith))
 
-pairs-far : (k : ℕ) → zero < k → (ps rs : List ℕ) (d : ℕ) → k ≤ d → pairCount k ps rs d ≡ 0
+-- and none is k or more
+pub pairs-far : (k : ℕ) → zero < k → (ps rs : List ℕ) (d : ℕ) → k ≤ d → pairCount k ps rs d ≡ 0
 unfolding pairCount sumOver
 pairs-far k pos [] rs d l = refl
 pairs-far k pos (a ∷ ps) rs d l = omega (arith, row-far k pos a rs d l, pairs-far k pos ps rs d l)
 
--- and the test refuses no other: where no two different symbols have two checks in common, the differences are all different
-pub refused-table : (k : ℕ) → zero < k → (ps : List ℕ) → All (λ p. p < k) ps
-    → ((j l : ℕ) → j < k → l < k → l ≢ j → sumOver (checksBy k ps j) (λ i. count i (checksBy k ps l)) ≤ 1) → T (allDifferent (differencesBy k ps ps))
-refused-table k pos ps h f = distinct-test (differencesBy k ps ps) .1 (count-distinct (differencesBy k ps ps) each)
-  where
-    each : (v : ℕ) → count v (differencesBy k ps ps) ≤ 1
-    each v = elim (ℕ-discrete v 0) as (λ o. count v (differencesBy k ps ps) ≤ 1) [
-      | yes e ↦ rw e (omega (arith, differences-zero k pos ps ps h h))
-      | no n ↦ elim (decLe (suc v) k) as (λ o. count v (differencesBy k ps ps) ≤ 1) [
-        | yes l ↦ subst (λ (c : ℕ). c ≤ 1) (common-pairs k pos ps ps h h 0 v pos l ∙ ap (λ (c : ℕ). pairCount k ps ps c) (sub-no-borrow k pos v 0 l (omega arith) ∙ omega arith) ∙ sym (differences-count k pos ps ps h v n)) (f 0 v pos l n)
-        | no l ↦ omega (arith, differences-count k pos ps ps h v n, pairs-far k pos ps ps v (omega arith))
-      ]
-    ]
-
 -- ---- the test of shared checks
 
-every-facts : (n : ℕ) (f : ℕ → Bool) → T (everyBelow n f) → (i : ℕ) → i < n → T (f i)
+pub every-facts : (n : ℕ) (f : ℕ → Bool) → T (everyBelow n f) → (i : ℕ) → i < n → T (f i)
 unfolding everyBelow
 every-facts zero f t i h = absurd (omega arith)
 every-facts (suc n) f t i h = elim (ℕ-discrete i n) as (λ o. T (f i)) [
@@ -172,7 +155,7 @@ every-facts (suc n) f t i h = elim (ℕ-discrete i n) as (λ o. T (f i)) [
   | no d ↦ every-facts n f (and-split (f n) (everyBelow n f) t .1) i (omega arith)
 ]
 
-every-make : (n : ℕ) (f : ℕ → Bool) → ((i : ℕ) → i < n → T (f i)) → T (everyBelow n f)
+pub every-make : (n : ℕ) (f : ℕ → Bool) → ((i : ℕ) → i < n → T (f i)) → T (everyBelow n f)
 unfolding everyBelow
 every-make zero f h = tt
 every-make (suc n) f h = and-join (f n) (everyBelow n f) (h n (omega arith)) (every-make n f (λ i l. h i (omega arith)))
@@ -191,19 +174,11 @@ unfolding selfOrthogonal
 orthogonal-test c = (
   λ e j l hj hl n. leb→le (shared c j l) 1
       (or-facts (eqb l j) (leb (shared c j l) 1)
-      (every-facts (c .k) (λ i. eqb i j || leb (shared c j i) 1)
-      (every-facts (c .k) (λ o. everyBelow (c .k) (λ i. eqb i o || leb (shared c o i) 1)) (subst T (sym e) tt) j hj) l hl)
+      (every-facts (dataCount c) (λ i. eqb i j || leb (shared c j i) 1)
+      (every-facts (dataCount c) (λ o. everyBelow (dataCount c) (λ i. eqb i o || leb (shared c o i) 1)) (subst T (sym e) tt) j hj) l hl)
       (eqb-no l j n)),
-  λ f. is-true _ (every-make (c .k) (λ o. everyBelow (c .k) (λ i. eqb i o || leb (shared c o i) 1))
-      (λ j hj. every-make (c .k) (λ i. eqb i j || leb (shared c j i) 1)
+  λ f. is-true _ (every-make (dataCount c) (λ o. everyBelow (dataCount c) (λ i. eqb i o || leb (shared c o i) 1))
+      (λ j hj. every-make (dataCount c) (λ i. eqb i j || leb (shared c j i) 1)
       (λ l hl. or-make (eqb l j) (leb (shared c j l) 1)
       (λ e. le→leb (shared c j l) 1 (f j l hj hl (λ p. absurd (subst T (sym (eqb-yes l j p) ∙ e) tt))))))),
-)
-
--- and so do the differences of positions
-pub orthogonal-differences : (c : Code) → zero < c .k → Ascending (c .k) (c .positions) → SelfOrthogonal c ↔ (allDifferent (differences c) ≡ true)
-unfolding shared
-orthogonal-differences c pos a = (
-  λ o. is-true (allDifferent (differences c)) (refused-table (c .k) pos (c .positions) (ascending-facts (c .k) (c .positions) a .0) o),
-  λ e. once-cross (c .k) pos (c .positions) (accepted-table (c .k) pos (c .positions) (fit-test (c .k) (c .positions) .1 a) (subst T (sym e) tt)),
 )
