@@ -7,35 +7,47 @@ use native.Mathlib.Numerals.{add-one}
 use native.Mathlib.Omega.{arith}
 use lib.ListN.{length, getD, set, take, length-set}
 use lib.Seq.{take-suc-set, take-all}
-use Rattle.model.specs.Code.{Code, checkCount, checksEach, checksBy, checksOf}
-use Rattle.model.specs.Limits.{TableLimits}
+use Rattle.model.specs.Code.{Code, checkCount, branchAt, checksBy}
+use Rattle.model.specs.Limits.{Ascending, TableLimits}
 use Rattle.model.specs.Symbols.{sub, same, count, Below, symbolsAt, subtractAt}
+use Rattle.theory.specs.Branches.{branch-length}
 use Rattle.theory.specs.Counting.{count-nil, count-cons}
 use Rattle.theory.specs.Steps.{below-subtractAt}
 use Rattle.theory.specs.Tables.{count-append}
 use Rattle.theory.specs.Turns.{symbolsAt-turn, subtractAt-none, subtractAt-turn}
 
--- a table within its limits, and a syndrome of as many symbols as there are checks
-pub record AtChecks (c : Code) (s : List ℕ) : Type 0 where
-  pub table : TableLimits c
-  pub len : length s ≡ checkCount c
+-- a run of positions within its limits, and a syndrome of k symbols
+pub record AtChecks (k : ℕ) (ps s : List ℕ) : Type 0 where
+  pub k-low : 1 ≤ k
+  pub k-high : k ≤ 4096
+  pub J-low : 1 ≤ length ps
+  pub J-high : length ps ≤ 32
+  pub ascending : Ascending k ps
+  pub len : length s ≡ k
 
--- the estimates of data symbol j: its own difference, and the syndrome at its checks
-abbrev pub estimatesAt : Code → ℕ → ℕ → List ℕ → List ℕ
-estimatesAt c j own s = own ∷ symbolsAt s (checksOf c j)
+-- the estimates of symbol j of a branch: its own difference, and the syndrome at its checks
+abbrev pub estimatesBy : ℕ → List ℕ → ℕ → ℕ → List ℕ → List ℕ
+estimatesBy k ps j own s = own ∷ symbolsAt s (checksBy k ps j)
 
-module _ {c : Code} {s : List ℕ} (f : AtChecks c s) where
+module _ {k : ℕ} {ps s : List ℕ} (f : AtChecks k ps s) where
   -- the same of another syndrome of that length
-  pub at-checks-of : (t : List ℕ) → length t ≡ length s → AtChecks c t
-  at-checks-of t e = record { table = f .table; len = e ∙ f .len }
+  pub at-checks-of : (t : List ℕ) → length t ≡ length s → AtChecks k ps t
+  at-checks-of t e = record { k-low = f .k-low; k-high = f .k-high; J-low = f .J-low; J-high = f .J-high; ascending = f .ascending; len = e ∙ f .len }
 
-  -- what a check by a position, or a data symbol by it, needs
-  pub by-position : (j i : ℕ) → j < c .k → i < checksEach c → (c .k ≤ 4096) × (j < c .k) × (getD (c .positions) i 0 < c .k)
-  by-position j i h l = (f .table .k-high, h, f .table .ascending .below i l)
+  -- what a check by a position, or a symbol by it, needs
+  pub by-position : (j i : ℕ) → j < k → i < length ps → (k ≤ 4096) × (j < k) × (getD ps i 0 < k)
+  by-position j i h l = (f .k-high, h, f .ascending .below i l)
 
-  -- a number modulo the number of checks is a place in the syndrome
-  pub check-inside : (a n : ℕ) → a ≡ n % checkCount c → a < length s
-  check-inside a n e = omega (arith, f .len, mod-lt n {m = checkCount c} (f .table .k-low))
+  -- a number modulo k is a place in the syndrome
+  pub check-inside : (a n : ℕ) → a ≡ n % k → a < length s
+  check-inside a n e = omega (arith, f .len, mod-lt n {m = k} (f .k-low))
+
+-- of a run of a table within its limits
+pub at-run : (c : Code) → TableLimits c → (r : ℕ) → r < c .b → (s : List ℕ) → length s ≡ checkCount c → AtChecks (c .k) (branchAt c r) s
+at-run c t r h s e =
+    let n = branch-length c t r h in
+    let z = t .sizes in
+    record { k-low = z .k-low; k-high = z .k-high; J-low = omega (arith, n, z .J-low); J-high = omega (arith, n, z .J-high); ascending = t .ascending r h; len = e }
 
 -- how often v stands at the checks, where none is passed and by one check more
 pub count-none-at : (v : ℕ) (s : List ℕ) (k : ℕ) (ps : List ℕ) (j : ℕ) → count v (symbolsAt s (checksBy k (take 0 ps) j)) ≡ 0

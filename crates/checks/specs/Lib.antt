@@ -1,2 +1,3 @@
--- What the calls over a data symbol's checks require, and the laws of their loops.
+-- What the contracts over a data symbol's checks cite: places, and the checks by a run of positions.
 pub mod Checks
+pub mod Places

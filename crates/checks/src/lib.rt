@@ -1,12 +1,58 @@
-// A data symbol's checks: which they are, the estimates and counts that the syndrome gives there, and a subtraction at them.
+// A data symbol's place and its checks: which they are, the estimates and counts that the syndrome gives there, and a subtraction at them.
+// A data symbol is symbol j of a branch, whose run of positions is lent.
 use params::Params;
 ghost use mathlib.Core.Path.{_≡_};
 ghost use Prim.Native.Nat.{_+_, _-_, _%_, _<_, _≤_};
 ghost use lib.ListN.{length};
-ghost use Rattle.model.specs.Code.{dataCount, checksOf};
+ghost use Rattle.model.specs.Code.{checksBy};
 ghost use Rattle.model.specs.Symbols.{Below, count, symbolsAt, subtractAt};
-ghost use Rattle.params.specs.Codes.{codeBy};
-ghost use Rattle.checks.specs.Checks.{AtChecks, estimatesAt};
+ghost use Rattle.checks.specs.Checks.{AtChecks, estimatesBy};
+ghost use Rattle.checks.specs.Places.{nextPlace};
+
+// Where a data symbol stands: its number, its index in its branch, and the run of that branch, which is the positions of the
+// table from `first` to before `last`.
+pub struct Place {
+    pub symbol: usize,
+    pub index: usize,
+    pub first: usize,
+    pub last: usize,
+}
+
+impl Place {
+    // Data symbol 0, of a table with this many positions a run.
+    pub fn start(each: usize) -> Self
+        ensures { λ r. ⌜ r ≡ record { symbol = 0; index = 0; first = 0; last = each } ⌝ }
+    {
+        Place {
+            symbol: 0,
+            index: 0,
+            first: 0,
+            last: each,
+        }
+    }
+
+    // The next data symbol: of the same branch, or the first of the next branch.
+    pub fn next(self, k: usize) -> Self
+        requires { ⌜ (self .index < k) × (k ≤ 4096) × (self .symbol < 4096) × (self .first ≤ self .last) × (self .last ≤ 256) ⌝ }
+        ensures { λ r. ⌜ r ≡ nextPlace k self ⌝ }
+    {
+        let index = self.index + 1;
+        if index == k {
+            return Place {
+                symbol: self.symbol + 1,
+                index: 0,
+                first: self.last,
+                last: self.last + (self.last - self.first),
+            };
+        }
+        Place {
+            symbol: self.symbol + 1,
+            index,
+            first: self.first,
+            last: self.last,
+        }
+    }
+}
 
 // a modulo k, by one comparison.
 fn wrapped(k: usize, a: usize) -> usize
@@ -16,7 +62,7 @@ fn wrapped(k: usize, a: usize) -> usize
     if a < k { a } else { a - k }
 }
 
-// The check of data symbol j by position p.
+// The check of symbol j of a branch by position p.
 pub fn check_of(k: usize, j: usize, p: u16) -> usize
     requires { ⌜ (k ≤ 4096) × (j < k) × (p < k) ⌝ }
     ensures { λ r. ⌜ r ≡ (j + p) % k ⌝ }
@@ -24,7 +70,7 @@ pub fn check_of(k: usize, j: usize, p: u16) -> usize
     wrapped(k, j + (p as usize))
 }
 
-// The data symbol that has check c by position p.
+// The symbol of a branch that has check c by position p.
 pub fn symbol_of(k: usize, c: usize, p: u16) -> usize
     requires { ⌜ (k ≤ 4096) × (c < k) × (p < k) ⌝ }
     ensures { λ r. ⌜ r ≡ (c + (k - p)) % k ⌝ }
@@ -34,10 +80,10 @@ pub fn symbol_of(k: usize, c: usize, p: u16) -> usize
 
 // The estimates of data symbol j: its own difference, and the syndrome at each of its checks.
 pub fn gather(code: Params, positions: &[u16], j: usize, own: u8, s: &[u8], es: &mut [u8])
-    requires { ⌜ AtChecks (codeBy code (now positions)) (now s)
-        × (j < dataCount (codeBy code (now positions)))
+    requires { ⌜ AtChecks (code .k) (now positions) (now s)
+        × (j < code .k)
         × (length (now es) ≡ length (now positions) + 1) ⌝ }
-    ensures { λ _. ⌜ now (es .exit) ≡ estimatesAt (codeBy code (now (positions .entry))) j own (now (s .entry)) ⌝ }
+    ensures { λ _. ⌜ now (es .exit) ≡ estimatesBy (code .k) (now (positions .entry)) j own (now (s .entry)) ⌝ }
 {
     es[0] = own;
     let mut i = 0;
@@ -50,8 +96,8 @@ pub fn gather(code: Params, positions: &[u16], j: usize, own: u8, s: &[u8], es: 
 
 // How often v stands in the syndrome at the checks of data symbol j.
 pub fn count_at(code: Params, positions: &[u16], j: usize, v: u8, s: &[u8]) -> u8
-    requires { ⌜ AtChecks (codeBy code (now positions)) (now s) × (j < dataCount (codeBy code (now positions))) ⌝ }
-    ensures { λ r. ⌜ r ≡ count v (symbolsAt (now (s .entry)) (checksOf (codeBy code (now (positions .entry))) j)) ⌝ }
+    requires { ⌜ AtChecks (code .k) (now positions) (now s) × (j < code .k) ⌝ }
+    ensures { λ r. ⌜ r ≡ count v (symbolsAt (now (s .entry)) (checksBy (code .k) (now (positions .entry)) j)) ⌝ }
 {
     let mut n: u8 = 0;
     let mut i = 0;
@@ -65,12 +111,12 @@ pub fn count_at(code: Params, positions: &[u16], j: usize, v: u8, s: &[u8]) -> u
 
 // h subtracted from the syndrome at each check of data symbol j.
 pub fn subtract_at(code: Params, positions: &[u16], j: usize, h: u8, s: &mut [u8])
-    requires { ⌜ AtChecks (codeBy code (now positions)) (now s)
-        × (j < dataCount (codeBy code (now positions)))
+    requires { ⌜ AtChecks (code .k) (now positions) (now s)
+        × (j < code .k)
         × (code .q ≤ 256)
         × (h < code .q)
         × Below (code .q) (now s) ⌝ }
-    ensures { λ _. ⌜ now (s .exit) ≡ subtractAt (code .q) h (checksOf (codeBy code (now (positions .entry))) j) (now (s .entry)) ⌝ }
+    ensures { λ _. ⌜ now (s .exit) ≡ subtractAt (code .q) h (checksBy (code .k) (now (positions .entry)) j) (now (s .entry)) ⌝ }
 {
     let top = symbols::highest(code.q);
     let mut i = 0;

@@ -4,7 +4,7 @@ use mathlib.Core.Logic.{_≢_, _↔_}
 use mathlib.Core.Bool.{true}
 use mathlib.Core.List.{List}
 use Prim.Native.Nat.{ℕ, zero, _+_, _-_, _*_, _/_, _%_, _≤_, _<_}
-use native.Mathlib.Nat.{add-sub-cancel-left, mod-lt, mod-eq-of-lt, div-add-mod', div-lt-iff-lt-mul, mul-le-mul-right}
+use native.Mathlib.Nat.{add-sub-cancel-left, zero-mul, mod-lt, mod-eq-of-lt, div-add-mod', div-lt-iff-lt-mul, mul-le-mul-right}
 use native.Mathlib.Decide.{ℕ-discrete, decLe, decLt}
 use native.Mathlib.Omega.{arith}
 use lib.Arith.{digits-div, digits-mod, digits-lt}
@@ -140,6 +140,45 @@ branch-inside c r h = omega (arith, mul-le-mul-right (c .k) h)
 
 pub data-part : (c : Code) (u : List ℕ) (r at : ℕ) → at ≡ r * c .k → take (at + c .k - at) (drop at u) ≡ branchData c u r
 data-part c u r at e = rw (add-sub-cancel-left at (c .k), e) refl
+
+-- ---- the branches one after the other
+
+-- r branches are passed: the run of the next one starts at `from` in the table, and its symbols at `at`
+pub record Passed (c : Code) (from at r : ℕ) : Type 0 where
+  pub within : r ≤ c .b
+  pub run-at : from ≡ r * checksEach c
+  pub data-at : at ≡ r * c .k
+
+pub passed-none : (c : Code) → Passed c 0 0 0
+passed-none c = record { within = omega arith; run-at = sym (zero-mul (checksEach c)); data-at = sym (zero-mul (c .k)) }
+
+-- the next branch: its run of `each` positions and its symbols, and where the one after it starts
+pub record Branch (c : Code) (each from at r : ℕ) : Type 0 where
+  pub run-in : from + each ≤ length (c .positions)
+  pub run-few : from + each ≤ 256
+  pub run : take (from + each - from) (drop from (c .positions)) ≡ branchAt c r
+  pub data-in : at + c .k ≤ dataCount c
+  pub data-few : at + c .k ≤ 4096
+  pub next : Passed c (from + each) (at + c .k) (r + 1)
+
+module _ {c : Code} {from at r : ℕ} (l : SizeLimits c) (w : Passed c from at r) where
+  pub next-branch : (each : ℕ) → each ≡ checksEach c → r < c .b → Branch c each from at r
+  next-branch each i h =
+      let a = run-inside c l r h in
+      let b = branch-inside c r h in
+      let e : (r + 1) * checksEach c ≡ r * checksEach c + checksEach c = omega arith in
+      let f : (r + 1) * c .k ≡ r * c .k + c .k = omega arith in
+      record {
+        run-in = omega (arith, i, w .run-at, a);
+        run-few = omega (arith, i, w .run-at, a, l .runs, mul-le-mul-right (checksEach c) (l .b-high), l .J-high);
+        run = ap (λ (n : ℕ). take (from + n - from) (drop from (c .positions))) i ∙ run-part c r from (w .run-at);
+        data-in = omega (arith, w .data-at, b);
+        data-few = omega (arith, w .data-at, b, l .data-high);
+        next = record { within = omega arith; run-at = omega (arith, i, w .run-at, e); data-at = omega (arith, w .data-at, f) };
+      }
+
+  pub passed-all : c .b ≤ r → at ≡ dataCount c
+  passed-all h = w .data-at ∙ ap (λ (x : ℕ). x * c .k) (let e : r ≡ c .b = omega (arith, w .within) in e)
 
 -- no two pairs of positions, the first of run r and the second of run s, have one difference d, but for the pairs of a position with itself
 abbrev pub PairsDiffer : Code → Type 0

@@ -46,7 +46,7 @@ equal-requires : tie.Need-equal-requires Inv-loop μ-loop
 equal-requires c κs = search needs
 
 add-n : tie.Need-add-n Inv-loop μ-loop
-add-n c = omega (arith, start (c .before .before .before .before .before) .pre .0 .table .J-high)
+add-n c = omega (arith, start (c .before .before .before .before .before) .pre .0 .J-high)
 
 add-i : tie.Need-add-i Inv-loop μ-loop
 add-i c = omega arith

@@ -1,46 +1,68 @@
--- `subtract_checks`: h is subtracted at the checks by the first i positions, and the zeros are counted as the syndrome then stands.
+-- `subtract_checks`: h is subtracted at the checks by the first i positions of the run, and the zeros are counted as the syndrome then stands.
 use mathlib.Core.Path.{_≡_, _∙_, ap, sym}
-use Prim.Native.Nat.{ℕ, _-_}
+use Prim.Native.Nat.{ℕ, _+_, _-_, _/_, _%_}
 use native.Mathlib.Omega.{arith}
-use borrow.Author.Needs.{needs}
 use lib.ListN.{length, getD}
-use Rattle.model.specs.Symbols.{sub}
+use Rattle.model.specs.Code.{Code, branchAt, checksBy, checksOf}
+use Rattle.model.specs.Symbols.{sub, subtractAt}
 use Rattle.params.specs.Codes.{codeBy}
+use Rattle.theory.specs.Branches.{branch-of, branch-length}
 use Rattle.checks.specs.Checks.{AtChecks, at-checks-of, by-position, check-inside, Subtracted, subtract-none, subtract-below, subtract-turn, subtract-all}
+use Rattle.checks.specs.Places.{Found, found, at-table-of}
 use Rattle.zeros.specs.Counts.{zeroCounts, length-zeroCounts}
 use Rattle.zeros.proofs.subtract_checks.Statement.{statement}
 use Rattle.zeros.proofs.subtract_checks.Tie as tie
 
 abbrev Inv-loop : tie.InvT-loop
-Inv-loop code positions j h s₀ zeros₀ top i₀ s zeros i = Subtracted (code .q) h (code .k) positions j s₀ i s × (zeros ≡ zeroCounts (codeBy code positions) s)
+Inv-loop code positions place h s₀ zeros₀ top first each i₀ s zeros i =
+    Subtracted (code .q) h (code .k) (branchAt (codeBy code positions) (place .symbol / code .k)) (place .index) s₀ i s × (zeros ≡ zeroCounts (codeBy code positions) s)
 
 abbrev μ-loop : tie.MeasureT-loop
-μ-loop code positions j h s₀ zeros₀ top i₀ s zeros i = length positions - i
+μ-loop code positions place h s₀ zeros₀ top first each i₀ s zeros i = each - i
 
--- the start, seen from the loop
+-- the start, seen from the loop, the code, and what the place is good for
 abbrev start : tie.At-loop Inv-loop μ-loop → tie.Start Inv-loop μ-loop
-start c = c .before .before .before .before .before
+start c = c .before .before .before .before .before .before
+
+abbrev code : tie.Start Inv-loop μ-loop → Code
+code c = codeBy (c .args .code) (c .args .positions .now)
+
+place : (c : tie.Start Inv-loop μ-loop) → Found (code c) (c .args .s .now) (c .args .place)
+place c = found (c .pre .0) (c .pre .1)
 
 -- the syndrome in the loop is at the checks still
-at : (c : tie.At-loop Inv-loop μ-loop) → AtChecks (codeBy (start c .args .code) (start c .args .positions .now)) (c .loop .s)
-at c = at-checks-of (start c .pre .0) (c .loop .s) (c .loop .inv .0 .sized)
+at : (c : tie.At-loop Inv-loop μ-loop) → AtChecks (start c .args .code .k) (branchAt (code (start c)) (start c .args .place .symbol / start c .args .code .k)) (c .loop .s)
+at c = at-checks-of (place (start c) .checks) (c .loop .s) (c .loop .inv .0 .sized)
+
+-- the run is passed where all its positions are
+passed : (c : tie.At-loop Inv-loop μ-loop) → length (branchAt (code (start c)) (start c .args .place .symbol / start c .args .code .k)) ≡ start c .args .place .last - start c .args .place .first
+passed c =
+    let b = start c in
+    branch-length (code b) (b .pre .0 .table) _ (branch-of (code b) (b .pre .0 .table) _ (b .pre .1 .inside)) ∙ sym (place b .each)
 
 highest-requires : tie.Need-highest-requires Inv-loop μ-loop
 highest-requires c κs = omega arith
 
+sub-each : tie.Need-sub-each Inv-loop μ-loop
+sub-each c = place (c .before .before .before .before .before) .first-last
+
 loop-holds : tie.Need-loop-holds Inv-loop μ-loop
-loop-holds c = (subtract-none _ _ _ _ _ _, c .before .before .before .before .pre .5)
+loop-holds c = (subtract-none _ _ _ _ _ _, c .before .before .before .before .before .pre .5)
+
+add-check-of : tie.Need-add-check-of Inv-loop μ-loop
+add-check-of c = omega (arith, place (start (c .before)) .few)
 
 mul-check-of : tie.Need-mul-check-of Inv-loop μ-loop
-mul-check-of c = search needs
+mul-check-of c = omega (arith, place (start (c .before)) .few)
 
 shared-slice-read-check-of : tie.Need-shared-slice-read-check-of Inv-loop μ-loop
-shared-slice-read-check-of c = omega arith
+shared-slice-read-check-of c = let l = c .before .before in omega (arith, place (start l) .last-in, place (start l) .first-last)
 
 check-of-requires : tie.Need-check-of-requires Inv-loop μ-loop
 check-of-requires c κs =
-    let p = start (c .before .before) .pre in
-    by-position (p .0) _ _ (p .1) (omega arith)
+    let l = c .before .before in
+    let g = place (start l) in
+    rw (g .position (l .loop .i) (omega (arith, g .each))) (by-position (g .checks) _ (l .loop .i) (g .index-low) (omega (arith, passed l)))
 
 slice-read-sub-mod : tie.Need-slice-read-sub-mod Inv-loop μ-loop
 slice-read-sub-mod c = check-inside (at (c .before .before .before .before)) _ _ (c .before .check-of .ensures)
@@ -49,13 +71,13 @@ sub-mod-requires : tie.Need-sub-mod-requires Inv-loop μ-loop
 sub-mod-requires c κs =
     let l = c .before .before .before .before in
     let low = subtract-below (l .loop .inv .0) (omega arith) (start l .pre .4) in
-    omega (arith, low (c .before .check-of .result), l .before .highest .ensures)
+    omega (arith, low (c .before .check-of .result), l .before .before .highest .ensures)
 
 write-check-requires : tie.Need-write-check-requires Inv-loop μ-loop
 write-check-requires c κs =
     let l = c .before .before .before .before .before .before .before in
-    let f = at l in
-    (f, omega (arith, f .len, slice-read-sub-mod (c .before .before .before)), l .loop .inv .1)
+    let b = start l in
+    (at-table-of (b .pre .0) (l .loop .s) (l .loop .inv .0 .sized), place b .each, omega (arith, at l .len, slice-read-sub-mod (c .before .before .before)), l .loop .inv .1)
 
 add-i : tie.Need-add-i Inv-loop μ-loop
 add-i c = omega arith
@@ -66,10 +88,12 @@ loop-less c = omega arith
 loop-again : tie.Need-loop-again Inv-loop μ-loop
 loop-again c =
     let l = c .before .before .before .before .before .before .before .before .before .before .before .before in
+    let g = place (start l) in
     let w = c .before .before .before .before .write-check .ensures in
     let chk = c .before .before .before .before .before .before .before .before .before .check-of in (
-      subtract-turn (l .loop .inv .0) _ _ _ (omega arith) (chk .ensures)
-          (c .before .before .before .before .before .before .before .sub-mod .ensures ∙ ap (λ (q : ℕ). sub q (getD (l .loop .s) (chk .result) 0) (start l .args .h)) (l .before .highest .ensures)) (w .0),
+      subtract-turn (l .loop .inv .0) _ _ _ (omega (arith, passed l))
+          (chk .ensures ∙ ap (λ (p : ℕ). (start l .args .place .index + p) % start l .args .code .k) (g .position (l .loop .i) (omega (arith, g .each))))
+          (c .before .before .before .before .before .before .before .sub-mod .ensures ∙ ap (λ (q : ℕ). sub q (getD (l .loop .s) (chk .result) 0) (start l .args .h)) (l .before .before .highest .ensures)) (w .0),
       w .1 ∙ ap (zeroCounts _) (sym (w .0)),
     )
 
@@ -80,7 +104,14 @@ same-length-2 : tie.Need-same-length-2 Inv-loop μ-loop
 same-length-2 c = ap length (c .before .loop .inv .1) ∙ length-zeroCounts _ _ ∙ sym (ap length (start (c .before) .pre .5) ∙ length-zeroCounts _ _)
 
 returns : tie.Need-returns Inv-loop μ-loop
-returns c = (subtract-all (c .before .loop .inv .0) (omega arith), c .before .loop .inv .1)
+unfolding checksOf
+returns c =
+    let l = c .before in
+    let b = start l in (
+      subtract-all (l .loop .inv .0) (omega (arith, passed l))
+          ∙ ap (λ (i : ℕ). subtractAt (b .args .code .q) (b .args .h) (checksBy (b .args .code .k) (branchAt (code b) (b .args .place .symbol / b .args .code .k)) i) (b .args .s .now)) (place b .index-is),
+      l .loop .inv .1,
+    )
 
 pub subtract-checks-spec : {M : Type 1} → statement M
 subtract-checks-spec =
@@ -89,7 +120,9 @@ subtract-checks-spec =
     Inv-loop
     μ-loop
     highest-requires
+    sub-each
     loop-holds
+    add-check-of
     mul-check-of
     shared-slice-read-check-of
     check-of-requires

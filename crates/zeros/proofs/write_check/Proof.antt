@@ -1,46 +1,53 @@
--- `write_check`: the counts of the data symbols that have check c by the first i positions have gained and lost; at the end these are all that have it.
-use mathlib.Core.Path.{refl}
-use Prim.Native.Nat.{_-_}
+-- `write_check`: the counts of the first r branches are those of the syndrome with v at check c; at the end all are.
+use mathlib.Core.Path.{_≡_, refl, ap, sym, _∙_}
+use mathlib.Core.List.{List}
+use Prim.Native.Nat.{ℕ, _-_}
 use native.Mathlib.Omega.{arith}
 use borrow.Author.Needs.{needs}
-use lib.ListN.{length, length-set}
-use Rattle.model.specs.Code.{Code}
+use lib.ListN.{length, set, length-set}
+use Rattle.model.specs.Code.{Code, branchAt}
 use Rattle.params.specs.Codes.{codeBy}
-use Rattle.checks.specs.Checks.{by-position}
-use Rattle.zeros.specs.Recount.{Recounted, Write, Turn, write-sized, recount-none, recount-turn, recount-all, recount-same}
+use Rattle.theory.specs.Branches.{Branch, next-branch}
+use Rattle.checks.specs.Checks.{AtChecks, at-run}
+use Rattle.zeros.specs.Counting.{Counting, counting-none, counting-length, counting-part, counting-turn, counting-all}
+use Rattle.zeros.specs.Counts.{length-zeroCounts}
+use Rattle.zeros.specs.Recount.{recounts, recounted-zeros, unchanged-zeros}
 use Rattle.zeros.proofs.write_check.Statement.{statement}
 use Rattle.zeros.proofs.write_check.Tie as tie
 
 abbrev Inv-loop : tie.InvT-loop
-Inv-loop code positions c v s zeros₀ lost gained i₀ zeros i = Recounted (codeBy code positions) c gained lost zeros₀ i zeros
+Inv-loop code positions each c v s zeros₀ lost gained k from₀ at₀ r₀ zeros from at r = Counting (codeBy code positions) s zeros₀ from at r zeros
 
 abbrev μ-loop : tie.MeasureT-loop
-μ-loop code positions c v s zeros₀ lost gained i₀ zeros i = length positions - i
+μ-loop code positions each c v s zeros₀ lost gained k from₀ at₀ r₀ zeros from at r = code .b - r
 
--- the places: the start seen from where both flags are known, and that seen from the loop
+-- the start, seen from where both flags are known and from the loop, and the code
 abbrev start : tie.After-equal2 Inv-loop μ-loop → tie.Start Inv-loop μ-loop
 start c = c .before .before .before .before .before .before
 
 abbrev flags : tie.At-loop Inv-loop μ-loop → tie.After-equal2 Inv-loop μ-loop
 flags c = c .before .before
 
-abbrev codeAt : tie.After-equal2 Inv-loop μ-loop → Code
-codeAt c = codeBy (start c .args .code) (start c .args .positions .now)
+abbrev code : tie.After-equal2 Inv-loop μ-loop → Code
+code c = codeBy (start c .args .code) (start c .args .positions .now)
 
--- the write
-write : (c : tie.After-equal2 Inv-loop μ-loop) → Write (codeAt c) (start c .args .s .now) (start c .args .c) (start c .args .v) (c .equal2 .result) (c .before .equal .result) (start c .args .zeros .now)
-write c =
-    let p = start c .pre in
-    record { fits = p .0; inside = p .1; counted = p .2; gain = c .equal2 .ensures .0; loss = c .before .equal .ensures .0 }
+-- the next branch, in the loop, and the syndrome at its checks before v is written
+branch : (c : tie.Then2 Inv-loop μ-loop)
+    → Branch (code (flags (c .before .before))) (start (flags (c .before .before)) .args .each) (c .before .before .loop .from) (c .before .before .loop .at) (c .before .before .loop .r)
+branch c =
+    let l = c .before .before in
+    let p = start (flags l) .pre in
+    next-branch (p .0 .table .sizes) (l .loop .inv .passed) _ (p .1) (omega arith)
 
--- a turn, at the data symbol that it counts again
-turn : (c : tie.After-slice-known4 Inv-loop μ-loop)
-    → Turn (codeAt (flags (c .before .before .before .before))) (start (flags (c .before .before .before .before)) .args .c) (flags (c .before .before .before .before) .equal2 .result) (flags (c .before .before .before .before) .before .equal .result)
-    (start (flags (c .before .before .before .before)) .args .zeros .now) (c .before .before .before .before .loop .i) (c .before .before .before .before .loop .zeros) (c .before .symbol-of .result)
-turn c = recount-turn (write (flags (c .before .before .before .before))) (c .before .before .before .before .loop .inv) (omega arith) (c .before .symbol-of .ensures)
+at : (c : tie.Then2 Inv-loop μ-loop)
+    → AtChecks (start (flags (c .before .before)) .args .code .k) (branchAt (code (flags (c .before .before))) (c .before .before .loop .r)) (start (flags (c .before .before)) .args .s .now)
+at c =
+    let l = c .before .before in
+    let t = start (flags l) .pre .0 in
+    at-run (code (flags l)) (t .table) (l .loop .r) (omega arith) _ (t .len)
 
 slice-read-equal : tie.Need-slice-read-equal Inv-loop μ-loop
-slice-read-equal c = omega arith
+slice-read-equal c = let p = c .before .before .before .before .pre in omega (arith, p .0 .len)
 
 equal-requires : tie.Need-equal-requires Inv-loop μ-loop
 equal-requires c κs = search needs
@@ -49,57 +56,94 @@ equal-requires-2 : tie.Need-equal-requires-2 Inv-loop μ-loop
 equal-requires-2 c κs = search needs
 
 slice-write-s : tie.Need-slice-write-s Inv-loop μ-loop
-slice-write-s c = omega arith
+slice-write-s c = let p = start c .pre in omega (arith, p .0 .len)
 
 same-length : tie.Need-same-length Inv-loop μ-loop
 same-length c = length-set (start (c .before) .args .s .now) _ _
 
 returns : tie.Need-returns Inv-loop μ-loop
-returns c = (refl, recount-same (write (c .before)) (omega arith))
+returns c =
+    let b = c .before in
+    let p = start b .pre in
+    (refl, p .3 ∙ unchanged-zeros _ _ _ _ (omega (arith, p .0 .len)) (omega (arith, b .equal2 .ensures .0, b .before .equal .ensures .0)))
 
 loop-holds : tie.Need-loop-holds Inv-loop μ-loop
-loop-holds c = recount-none (write (c .before))
+loop-holds c = counting-none _ _ _ (ap length (start (c .before) .pre .3) ∙ length-zeroCounts _ _)
 
-mul-symbol-of : tie.Need-mul-symbol-of Inv-loop μ-loop
-mul-symbol-of c = search needs
+add-recount-run : tie.Need-add-recount-run Inv-loop μ-loop
+add-recount-run c = omega (arith, branch c .run-few)
 
-shared-slice-read-symbol-of : tie.Need-shared-slice-read-symbol-of Inv-loop μ-loop
-shared-slice-read-symbol-of c = omega arith
+mul-recount-run : tie.Need-mul-recount-run Inv-loop μ-loop
+mul-recount-run c = omega (arith, branch c .run-few)
 
-symbol-of-requires : tie.Need-symbol-of-requires Inv-loop μ-loop
-symbol-of-requires c κs =
-    let p = start (flags (c .before .before)) .pre in
-    by-position (p .0) _ _ (p .1) (omega arith)
+sub-recount-run : tie.Need-sub-recount-run Inv-loop μ-loop
+sub-recount-run c = omega arith
 
-slice-read-zeros : tie.Need-slice-read-zeros Inv-loop μ-loop
-slice-read-zeros c = turn c .inside
+part-recount-run-start : tie.Need-part-recount-run-start Inv-loop μ-loop
+part-recount-run-start c = omega arith
 
-add-zeros : tie.Need-add-zeros Inv-loop μ-loop
-add-zeros c = let t = turn c in omega arith
+part-recount-run-end : tie.Need-part-recount-run-end Inv-loop μ-loop
+part-recount-run-end c = omega (arith, branch c .run-in)
 
-sub-zeros : tie.Need-sub-zeros Inv-loop μ-loop
-sub-zeros c = let t = turn c in omega arith
+add-recount-run-2 : tie.Need-add-recount-run-2 Inv-loop μ-loop
+add-recount-run-2 c = omega (arith, branch (c .before) .data-few)
 
-slice-write-zeros : tie.Need-slice-write-zeros Inv-loop μ-loop
-slice-write-zeros c = turn c .inside
+sub-recount-run-2 : tie.Need-sub-recount-run-2 Inv-loop μ-loop
+sub-recount-run-2 c = omega arith
 
-add-i : tie.Need-add-i Inv-loop μ-loop
-add-i c = omega arith
+part-recount-run-start-2 : tie.Need-part-recount-run-start-2 Inv-loop μ-loop
+part-recount-run-start-2 c = omega arith
+
+part-recount-run-end-2 : tie.Need-part-recount-run-end-2 Inv-loop μ-loop
+part-recount-run-end-2 c =
+    let l = c .before .before .before in
+    omega (arith, branch (c .before) .data-in, counting-length (start (flags l) .pre .0 .table .sizes) (l .loop .inv))
+
+recount-run-requires : tie.Need-recount-run-requires Inv-loop μ-loop
+recount-run-requires c κs =
+    let g = c .before .before in
+    let l = g .before .before in
+    let b = flags l in
+    let p = start b .pre in
+    rw (branch g .run, counting-part (p .0 .table .sizes) (l .loop .inv) _ (p .3) (omega arith))
+    (recounts (at g) _ (start b .args .v) (p .2) _ _ (b .equal2 .ensures .0) (b .before .equal .ensures .0))
+
+add-from : tie.Need-add-from Inv-loop μ-loop
+add-from c = omega (arith, branch (c .before .before .before .before .before) .run-few)
+
+add-at : tie.Need-add-at Inv-loop μ-loop
+add-at c = omega (arith, branch (c .before .before .before .before .before) .data-few)
+
+add-r : tie.Need-add-r Inv-loop μ-loop
+add-r c = omega arith
 
 loop-less : tie.Need-loop-less Inv-loop μ-loop
 loop-less c = omega arith
 
 loop-again : tie.Need-loop-again Inv-loop μ-loop
-loop-again c = turn c .next
+loop-again c =
+    let g = c .before .before .before .before .before in
+    let l = g .before .before in
+    let b = flags l in
+    let p = start b .pre in
+    let z = p .0 .table .sizes in
+    counting-turn z (l .loop .inv) _ (p .1) (omega arith) _
+    (recounted-zeros (at g) _ (start b .args .v) (p .2) _ _ (b .equal2 .ensures .0) (b .before .equal .ensures .0) _ _ _ (branch g .run)
+    (counting-part z (l .loop .inv) _ (p .3) (omega arith)) (c .before .before .recount-run .ensures))
 
 same-length-2 : tie.Need-same-length-2 Inv-loop μ-loop
-same-length-2 c = length-set (start (flags (c .before)) .args .s .now) _ _
+same-length-2 c = length-set (start (flags (c .before .before)) .args .s .now) _ _
 
 same-length-3 : tie.Need-same-length-3 Inv-loop μ-loop
-same-length-3 c = omega (arith, write-sized (write (flags (c .before))))
+same-length-3 c =
+    let l = c .before .before in
+    let p = start (flags l) .pre in
+    counting-length (p .0 .table .sizes) (l .loop .inv) ∙ sym (ap length (p .3) ∙ length-zeroCounts _ _)
 
 returns-2 : tie.Need-returns-2 Inv-loop μ-loop
-returns-2 c = (refl, recount-all (write (flags (c .before))) (c .before .loop .inv) (omega arith))
+returns-2 c =
+    let l = c .before .before in
+    (refl, counting-all (start (flags l) .pre .0 .table .sizes) (l .loop .inv) (omega arith))
 
 pub write-check-spec : {M : Type 1} → statement M
 write-check-spec =
@@ -114,14 +158,19 @@ write-check-spec =
     same-length
     returns
     loop-holds
-    mul-symbol-of
-    shared-slice-read-symbol-of
-    symbol-of-requires
-    slice-read-zeros
-    add-zeros
-    sub-zeros
-    slice-write-zeros
-    add-i
+    add-recount-run
+    mul-recount-run
+    sub-recount-run
+    part-recount-run-start
+    part-recount-run-end
+    add-recount-run-2
+    sub-recount-run-2
+    part-recount-run-start-2
+    part-recount-run-end-2
+    recount-run-requires
+    add-from
+    add-at
+    add-r
     loop-less
     loop-again
     same-length-2
