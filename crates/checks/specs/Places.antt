@@ -1,5 +1,5 @@
 -- The places of data symbols, branch by branch: by their number, and one after the other.
-use mathlib.Core.Path.{_≡_, refl, ap, sym, _∙_}
+use mathlib.Core.Path.{_≡_, refl, ap, sym, subst, _∙_}
 use mathlib.Core.List.{List}
 use Prim.Native.Nat.{ℕ, suc, _+_, _*_, _-_, _/_, _%_, _<_, _≤_}
 use native.Mathlib.Nat.{mod-lt, div-add-mod', mul-le-mul-right, mul-le-mul-left, zero-mul, zero-div, zero-mod}
@@ -8,7 +8,7 @@ use native.Mathlib.Omega.{arith}
 use lib.Arith.{digits-div, digits-mod}
 use lib.Dec.{eqb}
 use lib.ListN.{length, getD, take, drop}
-use Rattle.model.specs.Code.{Code, dataCount, checkCount, checksEach, branchAt}
+use Rattle.model.specs.Code.{Code, dataCount, checkCount, checksEach, branchAt, checksBy, checksOf}
 use Rattle.model.specs.Limits.{TableLimits}
 use Rattle.model.specs.Symbols.{choose}
 use Rattle.theory.specs.Branches.{branch-of, branch-position, run-part, run-inside}
@@ -69,6 +69,32 @@ pub record Placed (c : Code) (p : Place) : Type 0 where
   pub inside : p .symbol < dataCount c
   pub here : p ≡ placeAt c (p .symbol)
 
+-- ---- a walk over all places, from the first
+
+-- the place of a data symbol, or the one after the last
+pub record Walk (c : Code) (p : Place) : Type 0 where
+  pub within : p .symbol ≤ dataCount c
+  pub here : p ≡ placeAt c (p .symbol)
+
+pub walk-first : (c : Code) → TableLimits c → (each : ℕ) (p : Place) → each ≡ checksEach c → p ≡ record { symbol = 0; index = 0; first = 0; last = each } → Walk c p
+walk-first c t each p e f =
+    let w : p ≡ placeAt c 0 = f ∙ place-first c (t .sizes .k-low) each e in
+    let z : p .symbol ≡ 0 = ap (λ (x : Place). x .symbol) w in
+    record { within = omega arith; here = w ∙ ap (placeAt c) (sym z) }
+
+module _ {c : Code} {p : Place} (w : Walk c p) where
+  pub walk-placed : p .symbol < dataCount c → Placed c p
+  walk-placed h = record { inside = h; here = w .here }
+
+  pub walk-next : TableLimits c → p .symbol < dataCount c → (p′ : Place) → p′ ≡ nextPlace (c .k) p → (p′ .symbol ≡ p .symbol + 1) × Walk c p′
+  walk-next t h p′ e =
+      let n : p′ ≡ placeAt c (p .symbol + 1) = e ∙ ap (nextPlace (c .k)) (w .here) ∙ place-next c (t .sizes .k-low) (p .symbol) in
+      let z : p′ .symbol ≡ p .symbol + 1 = ap (λ (x : Place). x .symbol) n in
+      (z, record { within = omega arith; here = n ∙ ap (placeAt c) (sym z) })
+
+  pub walk-over : dataCount c ≤ p .symbol → p .symbol ≡ dataCount c
+  walk-over h = omega (arith, w .within)
+
 -- what a place is good for: its run, and the checks there
 pub record Found (c : Code) (s : List ℕ) (p : Place) : Type 0 where
   pub index-is : p .index ≡ p .symbol % c .k
@@ -80,6 +106,14 @@ pub record Found (c : Code) (s : List ℕ) (p : Place) : Type 0 where
   pub run : take (p .last - p .first) (drop (p .first) (c .positions)) ≡ branchAt c (p .symbol / c .k)
   pub position : (i : ℕ) → i < checksEach c → getD (c .positions) (p .first + i) 0 ≡ getD (branchAt c (p .symbol / c .k)) i 0
   pub checks : AtChecks (c .k) (branchAt c (p .symbol / c .k)) s
+  -- of the run as it is lent
+  pub checks-lent : AtChecks (c .k) (take (p .last - p .first) (drop (p .first) (c .positions))) s
+  pub checks-are : checksBy (c .k) (take (p .last - p .first) (drop (p .first) (c .positions))) (p .index) ≡ checksOf c (p .symbol)
+
+-- what the step to the next place asks
+pub next-fits : {c : Code} {s : List ℕ} {p : Place} → TableLimits c → Placed c p → Found c s p
+    → (p .index < c .k) × (c .k ≤ 4096) × (p .symbol < 4096) × (p .first ≤ p .last) × (p .last ≤ 256)
+next-fits t w f = (f .index-low, t .sizes .k-high, omega (arith, w .inside, t .sizes .data-high), f .first-last, f .few)
 
 module _ {c : Code} {s : List ℕ} (t : AtTable c s) where
   -- the same of another syndrome of that length
@@ -87,6 +121,7 @@ module _ {c : Code} {s : List ℕ} (t : AtTable c s) where
   at-table-of s′ e = record { table = t .table; len = e ∙ t .len }
 
   pub found : {p : Place} → Placed c p → Found c s p
+  unfolding checksOf
   found {p} w =
       let j : ℕ = p .symbol in
       let z = t .table .sizes in
@@ -97,6 +132,9 @@ module _ {c : Code} {s : List ℕ} (t : AtTable c s) where
       let b = branch-of c (t .table) j (w .inside) in
       let n = run-inside c z (j / c .k) b in
       let e : p .last ≡ p .first + J = omega arith in
+      let run : take (p .last - p .first) (drop (p .first) (c .positions)) ≡ branchAt c (j / c .k) =
+      ap (λ (x : ℕ). take (x - p .first) (drop (p .first) (c .positions))) e ∙ run-part c (j / c .k) (p .first) f in
+      let a = at-run c (t .table) (j / c .k) b s (t .len) in
       record {
         index-is = i;
         index-low = omega (arith, i, mod-lt j {m = c .k} (z .k-low));
@@ -104,7 +142,9 @@ module _ {c : Code} {s : List ℕ} (t : AtTable c s) where
         last-in = omega (arith, n);
         few = omega (arith, n, z .runs, z .b-high, z .J-high, mul-le-mul-right J (z .b-high));
         each = omega arith;
-        run = ap (λ (x : ℕ). take (x - p .first) (drop (p .first) (c .positions))) e ∙ run-part c (j / c .k) (p .first) f;
+        run = run;
         position = (λ o h. ap (λ (x : ℕ). getD (c .positions) (x + o) 0) f ∙ sym (branch-position c (j / c .k) o h));
-        checks = at-run c (t .table) (j / c .k) b s (t .len);
+        checks = a;
+        checks-lent = subst (λ (ps : List ℕ). AtChecks (c .k) ps s) (sym run) a;
+        checks-are = ap (λ (ps : List ℕ). checksBy (c .k) ps (p .index)) run ∙ ap (checksBy (c .k) (branchAt c (j / c .k))) i;
       }

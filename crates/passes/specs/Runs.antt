@@ -51,9 +51,9 @@ passesFrom c n (t ∷ ths) p =
     let more = passesFrom c (suc n) ths next in
     choose (eqb (next .tally .changes) (p .tally .changes)) (record { state = next .state; tally = withPasses (suc n) (next .tally) }) more
 
-pub visits-suc : (c : Code) (t n : ℕ) (p : Progress) → visits c t (n + 1) p ≡ visitOf c (record { symbol = n; threshold = t }) (visits c t n p)
+pub visits-suc : (c : Code) (t n m : ℕ) (p : Progress) → m ≡ n + 1 → visits c t m p ≡ visitOf c (record { symbol = n; threshold = t }) (visits c t n p)
 unfolding visits
-visits-suc c t n p = ap (λ (i : ℕ). visits c t i p) (add-one n)
+visits-suc c t n m p e = ap (λ (i : ℕ). visits c t i p) (e ∙ add-one n)
 
 passes-stop : (c : Code) (n t : ℕ) (ths : List ℕ) (p : Progress) → visits c t (dataCount c) p .tally .changes ≡ p .tally .changes
     → passesFrom c n (t ∷ ths) p ≡ passesFrom c (suc n) [] (visits c t (dataCount c) p)

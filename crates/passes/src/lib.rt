@@ -1,4 +1,5 @@
 // The run of passes over the data symbols.
+use checks::Place;
 use params::Params;
 use tally::Tally;
 ghost use mathlib.Core.Path.{_≡_};
@@ -31,6 +32,8 @@ fn run_counted(
     ensures counted { λ t. ⌜ now (zeros .exit) ≡ zeroCounts (codeBy code (now (positions .entry))) (now (syndrome .exit)) ⌝ }
 {
     let n = thresholds.len();
+    let symbols = params::data_count(code);
+    let each = params::checks_each(code, positions.len());
     let mut tally = opened;
     let mut p: usize = 0;
     let passes = loop {
@@ -39,12 +42,12 @@ fn run_counted(
         }
         let before = tally.changes;
         let threshold = thresholds[p];
-        let mut j: usize = 0;
-        while j < code.k {
+        let mut place = Place::start(each);
+        while place.symbol < symbols {
             tally = visits::visit(
                 code,
                 positions,
-                j,
+                place,
                 threshold,
                 result,
                 syndrome,
@@ -52,7 +55,7 @@ fn run_counted(
                 zeros,
                 tally,
             );
-            j += 1;
+            place = place.next(code.k);
         }
         p += 1;
         if tally.changes == before {

@@ -12,7 +12,8 @@ use Rattle.model.specs.Symbols.{sub, bit, subtractAt}
 use Rattle.theory.specs.Codes.{Usable}
 use Rattle.theory.specs.Falling.{visit-no, visit-yes}
 use Rattle.theory.specs.Steps.{Sized, below-estimates}
-use Rattle.checks.specs.Checks.{AtChecks, estimatesAt}
+use Rattle.checks.specs.Places.{AtTable}
+use Rattle.visits.specs.Estimates.{estimatesAt}
 use Rattle.visits.specs.Decisions.{toSubtract, subtract-zero, subtract-some, subtract-below}
 use Rattle.tally.specs.declared.Tally.{Tally}
 
@@ -47,8 +48,8 @@ pub record Ready (c : Code) (st : State) : Type 0 where
   pub bytes : c .q ≤ 256
   pub sized : Sized (c .q) (dataCount c) (checkCount c) st
 
-pub at-checks : (c : Code) (st : State) → Ready c st → AtChecks c (st .syndrome)
-at-checks c st r = record { table = r .usable .table; len = r .sized .len-syndrome }
+pub at-table : (c : Code) (st : State) → Ready c st → AtTable c (st .syndrome)
+at-table c st r = record { table = r .usable .table; len = r .sized .len-syndrome }
 
 -- what is subtracted is a symbol
 pub ready-subtract : (c : Code) (st : State) → Ready c st → (t j : ℕ) → toSubtract t (estimatesAt c j (getD (st .difference) j 0) (st .syndrome)) < c .q

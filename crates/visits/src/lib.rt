@@ -1,25 +1,27 @@
 // A visit to a data symbol: the vote over its estimates, and the change that the vote decides.
+use checks::Place;
 use params::Params;
 use tally::Tally;
 use vote::Vote;
 ghost use mathlib.Core.Path.{_≡_};
 ghost use Prim.Native.Nat.{_+_, _<_, _≤_};
 ghost use lib.ListN.{length, getD, set};
-ghost use Rattle.model.specs.Code.{dataCount, checksOf};
+ghost use Rattle.model.specs.Code.{checksBy, checksOf};
 ghost use Rattle.model.specs.Decoder.{stateBy, change};
 ghost use Rattle.model.specs.Symbols.{sub, count, symbolsAt};
 ghost use Rattle.params.specs.Codes.{codeBy};
 ghost use Rattle.vote.specs.Leading.{voteOf};
 ghost use Rattle.vote.specs.Others.{others};
-ghost use Rattle.checks.specs.Checks.{AtChecks, estimatesAt};
+ghost use Rattle.checks.specs.Checks.{AtChecks, estimatesBy};
+ghost use Rattle.checks.specs.Places.{Placed};
 ghost use Rattle.zeros.specs.Counts.{zeroCounts};
 ghost use Rattle.visits.specs.Decisions.{toSubtract};
 ghost use Rattle.visits.specs.Progress.{progress, Ready, visitOf};
 
-// The vote over the estimates of data symbol j, whose own difference is given.
+// The vote over the estimates of symbol j of a branch, whose run of positions is lent and whose own difference is given.
 pub fn vote_at(code: Params, positions: &[u16], j: usize, own: u8, s: &[u8]) -> Vote
-    requires { ⌜ AtChecks (codeBy code (now positions)) (now s) × (j < dataCount (codeBy code (now positions))) ⌝ }
-    ensures { λ r. ⌜ r ≡ voteOf (estimatesAt (codeBy code (now (positions .entry))) j own (now (s .entry))) ⌝ }
+    requires { ⌜ AtChecks (code .k) (now positions) (now s) × (j < code .k) ⌝ }
+    ensures { λ r. ⌜ r ≡ voteOf (estimatesBy (code .k) (now (positions .entry)) j own (now (s .entry))) ⌝ }
 {
     let n = positions.len() + 1;
     let mut es = [0u8; 33];
@@ -27,10 +29,10 @@ pub fn vote_at(code: Params, positions: &[u16], j: usize, own: u8, s: &[u8]) -> 
     vote::vote_over(&es[..n])
 }
 
-// The largest count of a value other than 0 among the estimates of data symbol j, whose own difference is given.
+// The largest count of a value other than 0 among the estimates of symbol j of a branch.
 pub fn most_other_at(code: Params, positions: &[u16], j: usize, own: u8, s: &[u8]) -> u8
-    requires { ⌜ AtChecks (codeBy code (now positions)) (now s) × (j < dataCount (codeBy code (now positions))) ⌝ }
-    ensures { λ r. ⌜ r ≡ others (estimatesAt (codeBy code (now (positions .entry))) j own (now (s .entry))) ⌝ }
+    requires { ⌜ AtChecks (code .k) (now positions) (now s) × (j < code .k) ⌝ }
+    ensures { λ r. ⌜ r ≡ others (estimatesBy (code .k) (now (positions .entry)) j own (now (s .entry))) ⌝ }
 {
     let n = positions.len() + 1;
     let mut found = [0u8; 33];
@@ -54,24 +56,26 @@ fn subtract_symbol(code: Params, j: usize, h: u8, result: &mut [u8], difference:
     difference[j] = symbols::sub_mod(top, difference[j], h);
 }
 
-// The change of data symbol j by h.
+// The change of a data symbol by h.
 pub fn change_at(
     code: Params,
     positions: &[u16],
-    j: usize,
+    place: Place,
     h: u8,
     result: &mut [u8],
     syndrome: &mut [u8],
     difference: &mut [u8],
 )
     requires { ⌜ Ready (codeBy code (now positions)) (stateBy (now result) (now syndrome) (now difference))
-        × (j < dataCount (codeBy code (now positions)))
+        × Placed (codeBy code (now positions)) place
         × (h < code .q) ⌝ }
     ensures { λ _. ⌜ stateBy (now (result .exit)) (now (syndrome .exit)) (now (difference .exit))
-        ≡ change (code .q) (checksOf (codeBy code (now (positions .entry))) j) j h (stateBy (now (result .entry)) (now (syndrome .entry)) (now (difference .entry))) ⌝ }
+        ≡ change (code .q) (checksOf (codeBy code (now (positions .entry))) (place .symbol)) (place .symbol) h (stateBy (now (result .entry)) (now (syndrome .entry)) (now (difference .entry))) ⌝ }
 {
-    subtract_symbol(code, j, h, result, difference);
-    checks::subtract_at(code, positions, j, h, syndrome);
+    let first = place.first;
+    let last = place.last;
+    subtract_symbol(code, place.symbol, h, result, difference);
+    checks::subtract_at(code, &positions[first..last], place.index, h, syndrome);
 }
 
 // h0 where estimates are a change at a threshold, else 0. A change needs a leader that stands more often among the
@@ -90,7 +94,7 @@ fn decided(es: &[u8], threshold: u8, zeros: u8) -> u8
     v.leader
 }
 
-// The same for the estimates of data symbol j, which are gathered first.
+// The same for the estimates of symbol j of a branch, which are gathered first.
 fn full_vote(
     code: Params,
     positions: &[u16],
@@ -100,11 +104,11 @@ fn full_vote(
     zeros: u8,
     syndrome: &[u8],
 ) -> u8
-    requires { ⌜ AtChecks (codeBy code (now positions)) (now syndrome)
-        × (j < dataCount (codeBy code (now positions)))
-        × (zeros ≡ count 0 (estimatesAt (codeBy code (now positions)) j own (now syndrome)))
+    requires { ⌜ AtChecks (code .k) (now positions) (now syndrome)
+        × (j < code .k)
+        × (zeros ≡ count 0 (estimatesBy (code .k) (now positions) j own (now syndrome)))
         × (zeros + threshold ≤ 255) ⌝ }
-    ensures { λ r. ⌜ r ≡ toSubtract threshold (estimatesAt (codeBy code (now (positions .entry))) j own (now (syndrome .entry))) ⌝ }
+    ensures { λ r. ⌜ r ≡ toSubtract threshold (estimatesBy (code .k) (now (positions .entry)) j own (now (syndrome .entry))) ⌝ }
 {
     let n = positions.len() + 1;
     let mut es = [0u8; 33];
@@ -123,10 +127,10 @@ fn voted(
     others: u8,
     syndrome: &[u8],
 ) -> u8
-    requires { ⌜ AtChecks (codeBy code (now positions)) (now syndrome)
-        × (j < dataCount (codeBy code (now positions)))
-        × (others ≡ count 0 (symbolsAt (now syndrome) (checksOf (codeBy code (now positions)) j))) ⌝ }
-    ensures { λ r. ⌜ r ≡ toSubtract threshold (estimatesAt (codeBy code (now (positions .entry))) j own (now (syndrome .entry))) ⌝ }
+    requires { ⌜ AtChecks (code .k) (now positions) (now syndrome)
+        × (j < code .k)
+        × (others ≡ count 0 (symbolsAt (now syndrome) (checksBy (code .k) (now positions) j))) ⌝ }
+    ensures { λ r. ⌜ r ≡ toSubtract threshold (estimatesBy (code .k) (now (positions .entry)) j own (now (syndrome .entry))) ⌝ }
 {
     let zeros = others + symbols::equal(0, own);
     if positions.len() < (zeros as usize) + (zeros as usize) + (threshold as usize) {
@@ -135,11 +139,11 @@ fn voted(
     full_vote(code, positions, j, threshold, own, zeros, syndrome)
 }
 
-// A visit to data symbol j with one threshold. zeros has the zeros at the checks of each data symbol, before and after.
+// A visit to a data symbol with one threshold. zeros has the zeros at the checks of each data symbol, before and after.
 pub fn visit(
     code: Params,
     positions: &[u16],
-    j: usize,
+    place: Place,
     threshold: u8,
     result: &mut [u8],
     syndrome: &mut [u8],
@@ -148,20 +152,31 @@ pub fn visit(
     tally: Tally,
 ) -> Tally
     requires { ⌜ Ready (codeBy code (now positions)) (stateBy (now result) (now syndrome) (now difference))
-        × (j < dataCount (codeBy code (now positions)))
+        × Placed (codeBy code (now positions)) place
         × (tally .changes < 4294967295)
         × (now zeros ≡ zeroCounts (codeBy code (now positions)) (now syndrome)) ⌝ }
     ensures step { λ t. ⌜ progress (now (result .exit)) (now (syndrome .exit)) (now (difference .exit)) t
-        ≡ visitOf (codeBy code (now (positions .entry))) (record { symbol = j; threshold = threshold })
+        ≡ visitOf (codeBy code (now (positions .entry))) (record { symbol = place .symbol; threshold = threshold })
         (progress (now (result .entry)) (now (syndrome .entry)) (now (difference .entry)) tally) ⌝ }
     ensures counted { λ t. ⌜ now (zeros .exit) ≡ zeroCounts (codeBy code (now (positions .entry))) (now (syndrome .exit)) ⌝ }
 {
+    let j = place.symbol;
+    let first = place.first;
+    let last = place.last;
     let own = difference[j];
-    let h = voted(code, positions, j, threshold, own, zeros[j], syndrome);
+    let h = voted(
+        code,
+        &positions[first..last],
+        place.index,
+        threshold,
+        own,
+        zeros[j],
+        syndrome,
+    );
     if h == 0 {
         return tally;
     }
     subtract_symbol(code, j, h, result, difference);
-    zeros::subtract_checks(code, positions, j, h, syndrome, zeros);
+    zeros::subtract_checks(code, positions, place, h, syndrome, zeros);
     tally.changed()
 }

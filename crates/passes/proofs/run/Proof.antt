@@ -1,11 +1,11 @@
 -- `run`: the zeros are counted first, as `run_counted` requires.
 use borrow.Author.Needs.{needs}
-use Rattle.visits.specs.Progress.{at-checks}
+use Rattle.visits.specs.Progress.{at-table}
 use Rattle.passes.proofs.run.Statement.{statement}
 use Rattle.passes.proofs.run.Tie as tie
 
 count-zeros-requires : tie.Need-count-zeros-requires
-count-zeros-requires c κs = let p = c .before .before .before .before .before .before .before .before .pre in (at-checks _ _ (p .0), p .3)
+count-zeros-requires c κs = let p = c .before .before .before .before .before .before .before .before .pre in (at-table _ _ (p .0), p .3)
 
 run-counted-requires : tie.Need-run-counted-requires
 run-counted-requires c κs =

@@ -1,29 +1,31 @@
--- `run_counted`: in a pass the state is that after its first j visits; between passes those left give what the whole run gives, with at most 4,096 changes a pass.
+-- `run_counted`: in a pass the state is that after the visits to the symbols before its place; between passes those left give what the whole run gives, with at most 4,096 changes a pass.
 use mathlib.Core.Path.{_≡_, refl, sym, _∙_, ap}
 use mathlib.Core.Logic.{⊎-elim}
 use mathlib.Core.List.{List, []}
-use Prim.Native.Nat.{ℕ, _≤_, _-_, _*_}
+use Prim.Native.Nat.{ℕ, _≤_, _<_, _+_, _-_, _*_}
 use native.Mathlib.Omega.{arith}
 use lib.ListN.{length, drop, drop-of-length-le}
-use Rattle.model.specs.Code.{Code}
+use Rattle.model.specs.Code.{Code, dataCount}
 use Rattle.params.specs.Codes.{codeBy}
+use Rattle.checks.specs.Places.{Walk, walk-first, walk-placed, walk-next, walk-over, found, next-fits}
 use Rattle.zeros.specs.Counts.{zeroCounts, length-zeroCounts}
-use Rattle.visits.specs.Progress.{Progress, progress, visitOf, Ready}
+use Rattle.visits.specs.Progress.{Progress, progress, visitOf, Ready, at-table}
 use Rattle.passes.specs.Runs.{visits, passesFrom, runOf, Kept, kept-by, visits-suc, pass-stop, pass-go, passes-run}
 use Rattle.passes.proofs.run_counted.Statement.{statement}
 use Rattle.passes.proofs.run_counted.Tie as tie
 
 abbrev Inv-loop2 : tie.InvT-loop2
-Inv-loop2 code positions thresholds result₀ syndrome₀ difference₀ zeros₀ n tally₀ p before threshold j₀ result syndrome difference zeros tally j =
-    (j ≤ code .k)
-    × (progress result syndrome difference tally ≡ visits (codeBy code positions) threshold j (progress result₀ syndrome₀ difference₀ tally₀))
+Inv-loop2 code positions thresholds result₀ syndrome₀ difference₀ zeros₀ n symbols each tally₀ p before threshold place₀ result syndrome difference zeros tally place =
+    Walk (codeBy code positions) place
+    × (progress result syndrome difference tally ≡ visits (codeBy code positions) threshold (place .symbol) (progress result₀ syndrome₀ difference₀ tally₀))
     × (zeros ≡ zeroCounts (codeBy code positions) syndrome)
 
 abbrev μ-loop2 : tie.MeasureT-loop2
-μ-loop2 code positions thresholds result₀ syndrome₀ difference₀ zeros₀ n tally₀ p before threshold j₀ result syndrome difference zeros tally j = code .k - j
+μ-loop2 code positions thresholds result₀ syndrome₀ difference₀ zeros₀ n symbols each tally₀ p before threshold place₀ result syndrome difference zeros tally place =
+    symbols - place .symbol
 
 abbrev Inv-loop : tie.InvT-loop
-Inv-loop code positions thresholds result₀ syndrome₀ difference₀ zeros₀ n tally₀ p₀ result syndrome difference zeros tally p =
+Inv-loop code positions thresholds result₀ syndrome₀ difference₀ zeros₀ n symbols each tally₀ p₀ result syndrome difference zeros tally p =
     (p ≤ n)
     × (zeros ≡ zeroCounts (codeBy code positions) syndrome)
     × Kept (codeBy code positions) (4096 * p) (progress result₀ syndrome₀ difference₀ tally₀) (progress result syndrome difference tally)
@@ -31,15 +33,15 @@ Inv-loop code positions thresholds result₀ syndrome₀ difference₀ zeros₀ 
     ≡ passesFrom (codeBy code positions) 0 thresholds (progress result₀ syndrome₀ difference₀ tally₀))
 
 abbrev μ-loop : tie.MeasureT-loop
-μ-loop code positions thresholds result₀ syndrome₀ difference₀ zeros₀ n tally₀ p₀ result syndrome difference zeros tally p = n - p
+μ-loop code positions thresholds result₀ syndrome₀ difference₀ zeros₀ n symbols each tally₀ p₀ result syndrome difference zeros tally p = n - p
 
 -- ---- the places: the start and the outer loop, seen from the loops
 
 abbrev start : tie.At-loop Inv-loop2 μ-loop2 Inv-loop μ-loop → tie.Start Inv-loop2 μ-loop2 Inv-loop μ-loop
-start c = c .before .before .before .before .before .before .before
+start c = c .before .before .before .before .before .before .before .before .before
 
 abbrev outer : tie.At-loop2 Inv-loop2 μ-loop2 Inv-loop μ-loop → tie.At-loop Inv-loop2 μ-loop2 Inv-loop μ-loop
-outer c = c .before .before .before
+outer c = c .before .before .before .before
 
 abbrev codeAt : tie.At-loop Inv-loop2 μ-loop2 Inv-loop μ-loop → Code
 codeAt c = codeBy (start c .args .code) (start c .args .positions .now)
@@ -55,39 +57,86 @@ abbrev within : tie.At-loop2 Inv-loop2 μ-loop2 Inv-loop μ-loop → Progress
 within c = progress (c .loop2 .result) (c .loop2 .syndrome) (c .loop2 .difference) (c .loop2 .tally)
 
 -- what the visits of a pass keep
-kept : (c : tie.At-loop2 Inv-loop2 μ-loop2 Inv-loop μ-loop) → Kept (codeAt (outer c)) (c .loop2 .j) (between (outer c)) (within c)
+kept : (c : tie.At-loop2 Inv-loop2 μ-loop2 Inv-loop μ-loop) → Kept (codeAt (outer c)) (c .loop2 .place .symbol) (between (outer c)) (within c)
 kept c = kept-by _ _ _ _ _ (outer c .loop .inv .2 .ready) (c .loop2 .inv .1)
 
 -- ---- the needs
 
+data-count-requires : tie.Need-data-count-requires Inv-loop2 μ-loop2 Inv-loop μ-loop
+data-count-requires c κs = let p = c .before .before .before .before .before .before .pre in omega (arith, p .0 .usable .table .sizes .data-high)
+
+checks-each-requires : tie.Need-checks-each-requires Inv-loop2 μ-loop2 Inv-loop μ-loop
+checks-each-requires c κs = c .before .before .before .before .before .before .before .pre .0 .usable .table .sizes .b-low
+
 loop-holds : tie.Need-loop-holds Inv-loop2 μ-loop2 Inv-loop μ-loop
 loop-holds c =
-    let p = c .before .before .before .before .before .before .pre in
+    let p = c .before .before .before .before .before .before .before .before .pre in
     (omega arith, p .3, record { ready = p .0; few = omega arith }, refl)
 
 shared-slice-read-threshold : tie.Need-shared-slice-read-threshold Inv-loop2 μ-loop2 Inv-loop μ-loop
 shared-slice-read-threshold c = omega arith
 
+start-requires : tie.Need-start-requires Inv-loop2 μ-loop2 Inv-loop μ-loop
+start-requires c κs = tt
+
 loop2-holds : tie.Need-loop2-holds Inv-loop2 μ-loop2 Inv-loop μ-loop
 unfolding visits
-loop2-holds c = (omega arith, refl, c .before .before .loop .inv .1)
+loop2-holds c =
+    let l = c .before .before .before in
+    let e = c .start .ensures in
+    (walk-first (codeAt l) (start l .pre .0 .usable .table) _ _ (l .before .checks-each .ensures) e, rw e refl, l .loop .inv .1)
+
+-- a symbol is next, where the inner loop goes on
+next-symbol : (c : tie.Then2 Inv-loop2 μ-loop2 Inv-loop μ-loop) → c .before .before .loop2 .place .symbol < dataCount (codeAt (outer (c .before .before)))
+next-symbol c = let l = outer (c .before .before) in omega (arith, l .before .before .data-count .ensures, c .if2 .taken)
+
+-- all are visited, where it ends
+all-visited : (c : tie.Else2 Inv-loop2 μ-loop2 Inv-loop μ-loop) → c .before .before .loop2 .place .symbol ≡ dataCount (codeAt (outer (c .before .before)))
+all-visited c =
+    let i = c .before .before in
+    walk-over (i .loop2 .inv .0) (omega (arith, outer i .before .before .data-count .ensures, c .if2 .left))
+
+-- the changes stay far below what a tally can hold
+few-changes : (c : tie.Then2 Inv-loop2 μ-loop2 Inv-loop μ-loop) → c .before .before .loop2 .tally .changes < 4294967295
+few-changes c =
+    let i = c .before .before in
+    let l = outer i in
+    let k = kept i in
+    omega (arith, next-symbol c, k .few, l .loop .inv .2 .few, k .ready .usable .table .sizes .data-high, start l .pre .1, start l .pre .2, i .before .before .before .if1 .left)
 
 visit-requires : tie.Need-visit-requires Inv-loop2 μ-loop2 Inv-loop μ-loop
 visit-requires c κs =
-    let l = c .before .before .before .before .before .before in
-    (kept l .ready, omega arith, omega (arith, kept l .few, outer l .loop .inv .2 .few), l .loop2 .inv .2)
+    let t = c .before .before .before .before in
+    let l = t .before .before in
+    (kept l .ready, walk-placed (l .loop2 .inv .0) (next-symbol t), few-changes t, l .loop2 .inv .2)
 
-add-j : tie.Need-add-j Inv-loop2 μ-loop2 Inv-loop μ-loop
-add-j c = omega arith
+next-requires : tie.Need-next-requires Inv-loop2 μ-loop2 Inv-loop μ-loop
+next-requires c κs =
+    let t = c .before .before .before .before .before .before .before .before .before .before .before .before .before in
+    let l = t .before .before in
+    let k = kept l in
+    let w = walk-placed (l .loop2 .inv .0) (next-symbol t) in
+    next-fits (k .ready .usable .table) w (found (at-table _ _ (k .ready)) w)
+
+-- the next place
+next-place : (c : tie.After-next Inv-loop2 μ-loop2 Inv-loop μ-loop)
+    → (c .next .result .symbol ≡ c .before .before .before .before .before .before .before .before .before .before .before .before .before .before .before .before .loop2 .place .symbol + 1) × Walk (codeAt (outer (c .before .before .before .before .before .before .before .before .before .before .before .before .before .before .before .before))) (c .next .result)
+next-place c =
+    let t = c .before .before .before .before .before .before .before .before .before .before .before .before .before .before in
+    let l = t .before .before in
+    walk-next (l .loop2 .inv .0) (kept l .ready .usable .table) (next-symbol t) _ (c .next .ensures)
 
 loop2-less : tie.Need-loop2-less Inv-loop2 μ-loop2 Inv-loop μ-loop
-loop2-less c = omega arith
+loop2-less c =
+    let t = c .before .before .before .before .before .before .before .before .before .before .before .before .before .before in
+    omega (arith, next-place c .0, next-symbol t, outer (t .before .before) .before .before .data-count .ensures)
 
 loop2-again : tie.Need-loop2-again Inv-loop2 μ-loop2 Inv-loop μ-loop
 loop2-again c =
-    let l = c .before .before .before .before .before .before .before .before .before .before .before .before .before .before .before in
-    let e = c .before .before .before .before .before .before .before .before .visit .ensures in
-    (omega arith, e .0 ∙ ap (visitOf _ _) (l .loop2 .inv .1) ∙ sym (visits-suc _ _ _ _), e .1)
+    let l = c .before .before .before .before .before .before .before .before .before .before .before .before .before .before .before .before in
+    let e = c .before .before .before .before .before .before .before .before .before .visit .ensures in
+    let n = next-place c in
+    (n .1, e .0 ∙ ap (visitOf _ _) (l .loop2 .inv .1) ∙ sym (visits-suc _ _ _ _ _ (n .0)), e .1)
 
 add-p : tie.Need-add-p Inv-loop2 μ-loop2 Inv-loop μ-loop
 add-p c = omega arith
@@ -97,14 +146,15 @@ loop-less c = omega arith
 
 loop-again : tie.Need-loop-again Inv-loop2 μ-loop2 Inv-loop μ-loop
 loop-again c =
-    let l = c .before .before .before .before in
+    let x = c .before .before in
+    let l = x .before .before in
     let o = outer l .loop in
     let k = kept l in
-    let h : l .loop2 .j ≡ start (outer l) .args .code .k = omega arith in (
+    let h = all-visited x in (
       omega arith,
       l .loop2 .inv .2,
-      record { ready = k .ready; few = omega (arith, k .few, o .inv .2 .few, k .ready .usable .table .k-high) },
-      sym (pass-go (codeAt (outer l)) (o .p) (l .loop2 .j) (start (outer l) .args .thresholds .now) (between (outer l)) (within l) (omega arith) h (l .loop2 .inv .1) (c .if3 .left))
+      record { ready = k .ready; few = omega (arith, h, k .few, o .inv .2 .few, k .ready .usable .table .sizes .data-high) },
+      sym (pass-go (codeAt (outer l)) (o .p) (l .loop2 .place .symbol) (start (outer l) .args .thresholds .now) (between (outer l)) (within l) (omega arith) h (l .loop2 .inv .1) (c .if3 .left))
           ∙ o .inv .3,
     )
 
@@ -142,12 +192,12 @@ done c =
     (λ w. rw (w .1, w .2, w .3, w .4, w .5, w .7)
     (left (omega arith) (p .0) (o .inv .2 .ready) (p .3) (o .inv .1)
     (ap (λ (l : List ℕ). passesFrom (codeAt b) (o .p) l (between b)) (sym (drop-of-length-le ths (w .0 .taken))) ∙ o .inv .3)))
-    (λ w. rw (w .7, w .8, w .9, w .10, w .11, w .13)
-    (let i = w .2 in
+    (λ w. rw (w .8, w .9, w .10, w .11, w .12, w .14)
+    (let i = w .3 in
     let x = progress (i .result) (i .syndrome) (i .difference) (i .tally) in
-    let h : i .j ≡ start b .args .code .k = omega arith in
+    let h : i .place .symbol ≡ dataCount (codeAt b) = walk-over (i .inv .0) (omega (arith, b .before .before .data-count .ensures, w .5 .left)) in
     left (omega arith) (p .0) (kept-by _ _ _ _ _ (o .inv .2 .ready) (i .inv .1) .ready) (p .3) (i .inv .2)
-    (sym (pass-stop (codeAt b) (o .p) (i .j) ths (between b) x (omega arith) h (i .inv .1) (w .6 .taken)) ∙ o .inv .3)))
+    (sym (pass-stop (codeAt b) (o .p) (i .place .symbol) ths (between b) x (omega arith) h (i .inv .1) (w .7 .taken)) ∙ o .inv .3)))
     (c .if1 .came)
 
 cast-passed : tie.Need-cast-passed Inv-loop2 μ-loop2 Inv-loop μ-loop
@@ -180,11 +230,14 @@ run-counted-spec =
     μ-loop2
     Inv-loop
     μ-loop
+    data-count-requires
+    checks-each-requires
     loop-holds
     shared-slice-read-threshold
+    start-requires
     loop2-holds
     visit-requires
-    add-j
+    next-requires
     loop2-less
     loop2-again
     add-p

@@ -1,61 +1,97 @@
 -- `visit`: the state is left where nothing is to subtract, and changed by h otherwise.
 use borrow.Author.Needs.{needs}
-use mathlib.Core.Path.{sym, _∙_, ap}
-use mathlib.Core.List.{List}
+use mathlib.Core.Path.{_≡_, sym, _∙_, ap}
+use mathlib.Core.List.{List, _∷_}
 use Prim.Native.Nat.{ℕ, _<_}
 use native.Mathlib.Omega.{arith}
 use lib.ListN.{length, getD}
+use Rattle.model.specs.Code.{Code}
+use Rattle.model.specs.Decoder.{stateBy}
+use Rattle.model.specs.Symbols.{count, symbolsAt}
 use Rattle.params.specs.Codes.{codeBy}
+use Rattle.checks.specs.Places.{Found, found}
 use Rattle.zeros.specs.Counts.{length-zeroCounts, zeroCounts-at}
-use Rattle.visits.specs.Progress.{both, at-checks, ready-subtract, ready-symbol, changed-state, visit-left, visit-made}
+use Rattle.visits.specs.Decisions.{toSubtract}
+use Rattle.visits.specs.Estimates.{estimatesAt}
+use Rattle.visits.specs.Progress.{both, at-table, ready-subtract, ready-symbol, changed-state, visit-left, visit-made}
 use Rattle.visits.proofs.visit.Statement.{statement}
 use Rattle.visits.proofs.visit.Tie as tie
 
--- the places: the start seen from the vote, and the vote seen from the end
+-- the places: the start seen from where the slices are known and from the vote, and the vote seen from the end
+abbrev begin : tie.After-slice-known5 → tie.Start
+begin c = c .before .before .before .before .before .before
+
 abbrev start : tie.After-voted → tie.Start
-start c = c .before .before .before .before .before .before .before .before .before
+start c = begin (c .before .before .before .before)
 
 abbrev vote : tie.After-changed → tie.After-voted
 vote c = c .before .before .before .before .before .before .before .before .before .before .before .before .before .before .before .before
 
--- what the vote says to subtract is a symbol
+abbrev code : tie.Start → Code
+code c = codeBy (c .args .code) (c .args .positions .now)
+
+-- what the place is good for
+place : (c : tie.Start) → Found (code c) (c .args .syndrome .now) (c .args .place)
+place c = found (at-table _ _ (c .pre .0)) (c .pre .1)
+
+-- what the vote says to subtract, and that it is a symbol
+subtracted : (c : tie.After-voted)
+    → c .voted .result ≡ toSubtract (start c .args .threshold) (estimatesAt (code (start c)) (start c .args .place .symbol) (getD (start c .args .difference .now) (start c .args .place .symbol) 0) (start c .args .syndrome .now))
+subtracted c =
+    let b = start c in
+    c .voted .ensures ∙ ap (λ (is : List ℕ). toSubtract (b .args .threshold) (getD (b .args .difference .now) (b .args .place .symbol) 0 ∷ symbolsAt (b .args .syndrome .now) is)) (place b .checks-are)
+
 symbol : (c : tie.After-voted) → c .voted .result < start c .args .code .q
-symbol c = let b = start c in omega (arith, c .voted .ensures, ready-subtract _ _ (b .pre .0) (b .args .threshold) (b .args .j))
+symbol c = let b = start c in omega (arith, subtracted c, ready-subtract _ _ (b .pre .0) (b .args .threshold) (b .args .place .symbol))
 
 slice-read-own : tie.Need-slice-read-own
-slice-read-own c = search needs
+slice-read-own c = let b = begin c in omega (arith, b .pre .1 .inside, b .pre .0 .sized .len-difference)
+
+mul-voted : tie.Need-mul-voted
+mul-voted c = omega (arith, place (begin c) .few, place (begin c) .first-last)
+
+sub-voted : tie.Need-sub-voted
+sub-voted c = place (begin c) .first-last
+
+part-voted-start : tie.Need-part-voted-start
+part-voted-start c = place (begin c) .first-last
+
+part-voted-end : tie.Need-part-voted-end
+part-voted-end c = place (begin c) .last-in
 
 slice-read-voted : tie.Need-slice-read-voted
 slice-read-voted c =
-    let b = c .before .before .before .before .before .before .before in
-    omega (arith, ap length (b .pre .3), length-zeroCounts (codeBy (b .args .code) (b .args .positions .now)) (b .args .syndrome .now))
+    let b = begin (c .before .before) in
+    omega (arith, b .pre .1 .inside, ap length (b .pre .3), length-zeroCounts (code b) (b .args .syndrome .now))
 
 voted-requires : tie.Need-voted-requires
 voted-requires c κs =
-    let b = c .before .before .before .before .before .before .before .before in
-    let a = b .args in (
-      at-checks _ _ (b .pre .0),
-      b .pre .1,
-      ap (λ (l : List ℕ). getD l (a .j) 0) (b .pre .3) ∙ zeroCounts-at (codeBy (a .code) (a .positions .now)) (a .syndrome .now) (a .j) (b .pre .1),
+    let b = begin (c .before .before .before) in
+    let a = b .args in
+    let g = place b in (
+      g .checks-lent,
+      g .index-low,
+      ap (λ (l : List ℕ). getD l (a .place .symbol) 0) (b .pre .3) ∙ zeroCounts-at (code b) (a .syndrome .now) (a .place .symbol) (b .pre .1 .inside)
+          ∙ ap (λ (is : List ℕ). count 0 (symbolsAt (a .syndrome .now) is)) (sym (g .checks-are)),
     )
 
 same-length : tie.Need-same-length
 same-length c = search needs
 
 returns : tie.Need-returns
-returns c = (visit-left _ _ _ _ _ _ (sym (c .if1 .taken) ∙ c .before .voted .ensures), start (c .before) .pre .3)
+returns c = (visit-left _ _ _ _ _ _ (sym (c .if1 .taken) ∙ subtracted (c .before)), start (c .before) .pre .3)
 
 subtract-symbol-requires : tie.Need-subtract-symbol-requires
 subtract-symbol-requires c κs =
     let v = c .before .before .before in
     let p = start v .pre in
-    ready-symbol _ _ (p .0) _ _ (p .1) (symbol v)
+    ready-symbol _ _ (p .0) _ _ (p .1 .inside) (symbol v)
 
 subtract-checks-requires : tie.Need-subtract-checks-requires
 subtract-checks-requires c κs =
     let v = c .before .before .before .before .before .before .before .before .before .before in
     let p = start v .pre in
-    (at-checks _ _ (p .0), p .1, p .0 .bytes, symbol v, p .0 .sized .in-syndrome, p .3)
+    (at-table _ _ (p .0), p .1, p .0 .bytes, symbol v, p .0 .sized .in-syndrome, p .3)
 
 changed-requires : tie.Need-changed-requires
 changed-requires c κs = search needs
@@ -77,13 +113,17 @@ returns-2 c =
     let v = vote c in
     let e = c .before .before .before .before .before .before .before .before .before .before .before .before .subtract-symbol .ensures in
     let s = c .before .before .before .before .before .subtract-checks .ensures in
-    (both (changed-state _ _ _ _ _ _ _ (e .0) (s .0) (e .1)) (c .changed .ensures) ∙ visit-made _ _ _ _ _ _ (v .voted .result) (v .voted .ensures) (c .before .before .before .before .before .before .before .before .before .before .before .before .before .before .before .if1 .left), s .1)
+    (both (changed-state _ _ _ _ _ _ _ (e .0) (s .0) (e .1)) (c .changed .ensures) ∙ visit-made _ _ _ _ _ _ (v .voted .result) (subtracted v) (c .before .before .before .before .before .before .before .before .before .before .before .before .before .before .before .if1 .left), s .1)
 
 pub visit-spec : {M : Type 1} → statement M
 visit-spec =
     tie.close
     (tie.spec
     slice-read-own
+    mul-voted
+    sub-voted
+    part-voted-start
+    part-voted-end
     slice-read-voted
     voted-requires
     same-length

@@ -4,8 +4,7 @@ use mathlib.Core.Path.{_≡_}
 use Prim.Native.Nat.{_+_, _≤_}
 use native.Mathlib.Omega.{arith}
 use Rattle.model.specs.Symbols.{count}
-use Rattle.params.specs.Codes.{codeBy}
-use Rattle.checks.specs.Checks.{estimatesAt}
+use Rattle.checks.specs.Checks.{estimatesBy}
 use Rattle.zeros.specs.Counts.{count-le}
 use Rattle.visits.specs.Decisions.{subtract-by-zeros}
 use Rattle.visits.specs.Estimates.{estimates-length, zeros-counted}
@@ -15,14 +14,13 @@ use Rattle.visits.proofs.voted.Tie as tie
 -- the zeros of the estimates, of which there are no more than estimates
 counted : (c : tie.After-equal)
     → (c .before .before .before .args .others + c .equal .result
-    ≡ count 0 (estimatesAt (codeBy (c .before .before .before .args .code) (c .before .before .before .args .positions .now)) (c .before .before .before .args .j) (c .before .before .before .args .own) (c .before .before .before .args .syndrome .now)))
+    ≡ count 0 (estimatesBy (c .before .before .before .args .code .k) (c .before .before .before .args .positions .now) (c .before .before .before .args .j) (c .before .before .before .args .own) (c .before .before .before .args .syndrome .now)))
     × (c .before .before .before .args .others + c .equal .result ≤ 33)
 counted c =
     let b = c .before .before .before in
     let a = b .args in
-    let code = codeBy (a .code) (a .positions .now) in
     let z = zeros-counted (a .own) _ _ _ (b .pre .2) (c .equal .ensures .0) in
-    (z, omega (arith, z, count-le 0 (estimatesAt code (a .j) (a .own) (a .syndrome .now)), estimates-length code (a .j) (a .own) (a .syndrome .now), b .pre .0 .table .J-high))
+    (z, omega (arith, z, count-le 0 (estimatesBy (a .code .k) (a .positions .now) (a .j) (a .own) (a .syndrome .now)), estimates-length (a .code .k) (a .positions .now) (a .j) (a .own) (a .syndrome .now), b .pre .0 .J-high))
 
 equal-requires : tie.Need-equal-requires
 equal-requires c κs = search needs
@@ -46,12 +44,12 @@ returns : tie.Need-returns
 returns c =
     let a = c .before .before .before .before .args in
     subtract-by-zeros (a .threshold) _
-    (omega (arith, counted (c .before) .0, estimates-length (codeBy (a .code) (a .positions .now)) (a .j) (a .own) (a .syndrome .now), c .if1 .taken))
+    (omega (arith, counted (c .before) .0, estimates-length (a .code .k) (a .positions .now) (a .j) (a .own) (a .syndrome .now), c .if1 .taken))
 
 full-vote-requires : tie.Need-full-vote-requires
 full-vote-requires c κs =
     let p = c .before .before .before .before .pre in
-    (p .0, p .1, counted (c .before) .0, omega (arith, p .0 .table .J-high, c .if1 .left))
+    (p .0, p .1, counted (c .before) .0, omega (arith, p .0 .J-high, c .if1 .left))
 
 returns-2 : tie.Need-returns-2
 returns-2 c = search needs

@@ -1,6 +1,6 @@
 -- `subtract_checks`: h is subtracted at the checks by the first i positions of the run, and the zeros are counted as the syndrome then stands.
 use mathlib.Core.Path.{_≡_, _∙_, ap, sym}
-use Prim.Native.Nat.{ℕ, _+_, _-_, _/_, _%_}
+use Prim.Native.Nat.{ℕ, _+_, _-_, _/_, _%_, _<_}
 use native.Mathlib.Omega.{arith}
 use lib.ListN.{length, getD}
 use Rattle.model.specs.Code.{Code, branchAt, checksBy, checksOf}
@@ -39,6 +39,10 @@ passed : (c : tie.At-loop Inv-loop μ-loop) → length (branchAt (code (start c)
 passed c =
     let b = start c in
     branch-length (code b) (b .pre .0 .table) _ (branch-of (code b) (b .pre .0 .table) _ (b .pre .1 .inside)) ∙ sym (place b .each)
+
+-- a position of the run is next
+inside : (c : tie.In-loop Inv-loop μ-loop) → c .before .loop .i < length (branchAt (code (start (c .before))) (start (c .before) .args .place .symbol / start (c .before) .args .code .k))
+inside c = omega (arith, passed (c .before))
 
 highest-requires : tie.Need-highest-requires Inv-loop μ-loop
 highest-requires c κs = omega arith
@@ -87,12 +91,13 @@ loop-less c = omega arith
 
 loop-again : tie.Need-loop-again Inv-loop μ-loop
 loop-again c =
-    let l = c .before .before .before .before .before .before .before .before .before .before .before .before in
+    let o = c .before .before .before .before .before .before .before .before .before .before .before in
+    let l = o .before in
     let g = place (start l) in
     let w = c .before .before .before .before .write-check .ensures in
     let chk = c .before .before .before .before .before .before .before .before .before .check-of in (
-      subtract-turn (l .loop .inv .0) _ _ _ (omega (arith, passed l))
-          (chk .ensures ∙ ap (λ (p : ℕ). (start l .args .place .index + p) % start l .args .code .k) (g .position (l .loop .i) (omega (arith, g .each))))
+      subtract-turn (l .loop .inv .0) _ _ _ (inside o)
+          (chk .ensures ∙ ap (λ (p : ℕ). (start l .args .place .index + p) % start l .args .code .k) (g .position (l .loop .i) (omega (arith, inside o, passed l, g .each))))
           (c .before .before .before .before .before .before .before .sub-mod .ensures ∙ ap (λ (q : ℕ). sub q (getD (l .loop .s) (chk .result) 0) (start l .args .h)) (l .before .before .highest .ensures)) (w .0),
       w .1 ∙ ap (zeroCounts _) (sym (w .0)),
     )
