@@ -2,30 +2,35 @@
 use mathlib.Core.Path.{_≡_, refl, ap, sym, _∙_}
 use mathlib.Core.Logic.{_≢_}
 use mathlib.Core.List.{List, [], _∷_, _++_, map}
-use Prim.Native.Nat.{ℕ, zero, suc, _+_, _≤_, _<_}
+use Prim.Native.Nat.{ℕ, zero, suc, _+_, _-_, _≤_, _<_}
 use native.Mathlib.Decide.{ℕ-discrete, decLt}
 use native.Mathlib.Numerals.{add-one}
 use native.Mathlib.Omega.{arith}
 use lib.IntN.{ℤ, pos, _-ℤ_}
-use lib.ListN.{length, getD, set, take, length-set}
+use lib.ListN.{length, getD, set, take, drop, length-set}
 use lib.Seq.{take-suc-set, take-all}
 use lib.Signed.{mag}
 use mir.Syntax.{w32}
 use mir.Val.{toZ, ofZ, SFits}
 use mir.ValLaws.{toZ-ofZ}
 use borrow.Author.Tests.{lt-ltb, le-ltb}
-use Rattle.model.specs.Code.{Code, dataCount, checksEach, checksOf}
+use Rattle.model.specs.Code.{Code, dataCount, checksEach, checksBy, checksOf}
 use Rattle.model.specs.Decoder.{State, estimates, dataSymbols, marginsOf}
+use Rattle.model.specs.Limits.{TableLimits}
 use Rattle.model.specs.Symbols.{count, weight, tabulate, symbolsAt}
 use Rattle.model.specs.Vote.{otherCount, margin}
-use Rattle.theory.specs.Circulant.{length-checksBy}
+use Rattle.theory.specs.Branches.{checks-length}
 use Rattle.theory.specs.Counting.{same-yes, differ-no, differ-yes, All, length-symbolsAt, misses, count-misses}
 use Rattle.theory.specs.Integers.{whole}
 use Rattle.theory.specs.Margins.{zeros-others, margin-top, margins-snoc}
+use Rattle.theory.specs.Runs.{symbols-range}
 use Rattle.theory.specs.Steps.{stateWeight}
 use Rattle.theory.specs.Voting.{other-max}
-use Rattle.checks.specs.Checks.{AtChecks}
-use Rattle.zeros.specs.Counts.{zeroCounts}
+use Rattle.checks.specs.Checks.{estimatesBy}
+use Rattle.checks.specs.Places.{AtTable, Found}
+use Rattle.checks.specs.declared.Place.{Place}
+use Rattle.visits.specs.Estimates.{estimatesAt}
+use Rattle.zeros.specs.Counts.{zeroCounts, zeroCounts-at}
 
 -- where every estimate is 0
 pub margin-firm : (es : List ℕ) → count 0 es ≡ length es → pos (count 0 es) -ℤ pos 0 ≡ margin es
@@ -50,6 +55,19 @@ margin-but-one es e =
 -- both terms are no more than the estimates
 pub others-few : (es : List ℕ) → otherCount es 0 es ≤ length es
 others-few es = omega (arith, zeros-others es)
+
+-- ---- at a place: the run is the part of the table that is lent
+
+-- the zeros at the checks, from those of all data symbols
+pub placed-zeros : {c : Code} {s : List ℕ} {p : Place} → Found c s p → p .symbol < dataCount c → (zs : List ℕ) → zs ≡ zeroCounts c s
+    → getD zs (p .symbol) 0 ≡ count 0 (symbolsAt s (checksBy (c .k) (take (p .last - p .first) (drop (p .first) (c .positions))) (p .index)))
+placed-zeros {c} {s} {p} f h zs e =
+    ap (λ (z : List ℕ). getD z (p .symbol) 0) e ∙ zeroCounts-at c s (p .symbol) h ∙ ap (λ (is : List ℕ). count 0 (symbolsAt s is)) (sym (f .checks-are))
+
+-- the margin
+pub placed-margin : {c : Code} {s : List ℕ} {p : Place} → Found c s p → (own : ℕ) (m : ℤ)
+    → m ≡ margin (estimatesBy (c .k) (take (p .last - p .first) (drop (p .first) (c .positions))) (p .index) own s) → m ≡ margin (estimatesAt c (p .symbol) own s)
+placed-margin {c} {s} {p} f own m e = e ∙ ap (λ (is : List ℕ). margin (own ∷ symbolsAt s is)) (f .checks-are)
 
 -- ---- margins written from the front
 
@@ -94,24 +112,25 @@ map-same f g [] a = refl
 map-same f g (x ∷ xs) a = λ i. a .0 i ∷ map-same f g xs (a .1) i
 
 -- every margin is the number of estimates, J + 1
-pub margins-firm : (c : Code) (st : State) (n : ℕ) → n ≡ checksEach c + 1 → stateWeight st ≡ 0 → map (λ j. pos n -ℤ pos 0) (tabulate (dataCount c) (λ j. j)) ≡ marginsOf c st
+pub margins-firm : (c : Code) → TableLimits c → (st : State) (n : ℕ) → n ≡ checksEach c + 1 → stateWeight st ≡ 0 → map (λ j. pos n -ℤ pos 0) (tabulate (dataCount c) (λ j. j)) ≡ marginsOf c st
 unfolding marginsOf stateWeight estimates
-margins-firm c st n m e = map-same (λ j. pos n -ℤ pos 0) (λ j. margin (estimates (checksOf c j) j st)) (dataSymbols c) (every (dataSymbols c))
+margins-firm c t st n m e =
+    map-same (λ j. pos n -ℤ pos 0) (λ j. margin (estimates (checksOf c j) j st)) (dataSymbols c) (every (dataSymbols c) (symbols-range c))
   where
-    firm : (j : ℕ) → pos n -ℤ pos 0 ≡ margin (getD (st .difference) j 0 ∷ symbolsAt (st .syndrome) (checksOf c j))
-    firm j =
+    firm : (j : ℕ) → j < dataCount c → pos n -ℤ pos 0 ≡ margin (getD (st .difference) j 0 ∷ symbolsAt (st .syndrome) (checksOf c j))
+    firm j h =
         let es : List ℕ = getD (st .difference) j 0 ∷ symbolsAt (st .syndrome) (checksOf c j) in
-        let l : n ≡ length es = omega (arith, length-symbolsAt (st .syndrome) (checksOf c j), length-checksBy (c .k) (c .positions) j) in
+        let l : n ≡ length es = omega (arith, length-symbolsAt (st .syndrome) (checksOf c j), checks-length c t j h) in
         whole n ∙ ap pos l
         ∙ sym (margin-top es .1 (zero-weight (st .difference) (omega arith) j, zeros-at (st .syndrome) (zero-weight (st .syndrome) (omega arith)) (checksOf c j)))
 
-    every : (xs : List ℕ) → All (λ j. pos n -ℤ pos 0 ≡ margin (getD (st .difference) j 0 ∷ symbolsAt (st .syndrome) (checksOf c j))) xs
-    every [] = tt
-    every (x ∷ xs) = (firm x, every xs)
+    every : (xs : List ℕ) → All (λ j. j < dataCount c) xs → All (λ j. pos n -ℤ pos 0 ≡ margin (getD (st .difference) j 0 ∷ symbolsAt (st .syndrome) (checksOf c j))) xs
+    every [] a = tt
+    every (x ∷ xs) a = (firm x (a .0), every xs (a .1))
 
 -- what a decode that is done leaves for its margins: S and D, their weight, and, where that is not 0, the zeros at the checks of each data symbol
 pub record Left (c : Code) (s d zeros : List ℕ) (n : ℕ) : Type 0 where
-  pub checks : AtChecks c s
+  pub checks : AtTable c s
   pub len-difference : length d ≡ dataCount c
   pub weighed : n ≡ weight d + weight s
   pub room : dataCount c ≤ length zeros

@@ -1,16 +1,18 @@
 // The margins of data symbols, which tell how firmly each stands: zeros among its estimates less the largest count of any one other value.
+use checks::Place;
 use params::Params;
 ghost use mathlib.Core.Path.{_≡_};
 ghost use mathlib.Core.List.{List, map};
 ghost use Prim.Native.Nat.{ℕ, _+_, _<_, _≤_};
 ghost use lib.IntN.{pos, _-ℤ_};
 ghost use lib.ListN.{length};
-ghost use Rattle.model.specs.Code.{dataCount, checksOf};
+ghost use Rattle.model.specs.Code.{dataCount, checksBy};
 ghost use Rattle.model.specs.Decoder.{stateBy, marginsOf};
 ghost use Rattle.model.specs.Symbols.{count, tabulate, symbolsAt};
 ghost use Rattle.model.specs.Vote.{margin};
 ghost use Rattle.params.specs.Codes.{codeBy};
-ghost use Rattle.checks.specs.Checks.{AtChecks, estimatesAt};
+ghost use Rattle.checks.specs.Checks.{AtChecks, estimatesBy};
+ghost use Rattle.checks.specs.Places.{AtTable};
 ghost use Rattle.zeros.specs.Counts.{zeroCounts};
 ghost use Rattle.margins.specs.Margins.{Left};
 
@@ -22,13 +24,13 @@ fn margin_of(zeros: u8, most: u8) -> i32
     (zeros as i32) - (most as i32)
 }
 
-// The margin of data symbol j, whose own difference and zeros at its checks are given. Where at most one estimate is not 0, these
+// The margin of symbol j of a branch, whose run of positions is lent and whose own difference and zeros at its checks are given. Where at most one estimate is not 0, these
 // settle it; else the other values are counted.
 pub fn margin_at(code: Params, positions: &[u16], j: usize, own: u8, others: u8, s: &[u8]) -> i32
-    requires { ⌜ AtChecks (codeBy code (now positions)) (now s)
-        × (j < dataCount (codeBy code (now positions)))
-        × (others ≡ count 0 (symbolsAt (now s) (checksOf (codeBy code (now positions)) j))) ⌝ }
-    ensures { λ r. ⌜ r ≡ margin (estimatesAt (codeBy code (now (positions .entry))) j own (now (s .entry))) ⌝ }
+    requires { ⌜ AtChecks (code .k) (now positions) (now s)
+        × (j < code .k)
+        × (others ≡ count 0 (symbolsAt (now s) (checksBy (code .k) (now positions) j))) ⌝ }
+    ensures { λ r. ⌜ r ≡ margin (estimatesBy (code .k) (now (positions .entry)) j own (now (s .entry))) ⌝ }
 {
     let zeros = others + symbols::equal(0, own);
     let n = positions.len() + 1;
@@ -50,16 +52,19 @@ pub fn write_margins(
     d: &[u8],
     margins: &mut [i32],
 )
-    requires { ⌜ AtChecks (codeBy code (now positions)) (now s)
+    requires { ⌜ AtTable (codeBy code (now positions)) (now s)
         × (now zeros ≡ zeroCounts (codeBy code (now positions)) (now s))
         × (length (now d) ≡ dataCount (codeBy code (now positions)))
         × (length (now margins) ≡ dataCount (codeBy code (now positions))) ⌝ }
     ensures { λ _. ⌜ ((r : List ℕ) → now (margins .exit) ≡ marginsOf (codeBy code (now (positions .entry))) (stateBy r (now (s .entry)) (now (d .entry)))) ⌝ }
 {
-    let mut j = 0;
-    while j < margins.len() {
-        margins[j] = margin_at(code, positions, j, d[j], zeros[j], s);
-        j += 1;
+    let mut place = Place::start(params::checks_each(code, positions.len()));
+    while place.symbol < margins.len() {
+        let j = place.symbol;
+        let first = place.first;
+        let last = place.last;
+        margins[j] = margin_at(code, &positions[first..last], place.index, d[j], zeros[j], s);
+        place = place.next(code.k);
     }
 }
 
@@ -89,9 +94,9 @@ pub fn fill(
     ensures { λ _. ⌜ ((r : List ℕ) → now (margins .exit) ≡ marginsOf (codeBy code (now (positions .entry))) (stateBy r (now (s .entry)) (now (d .entry)))) ⌝ }
 {
     if end == 0 {
-        write_firm((positions.len() + 1) as u8, margins);
+        write_firm((params::checks_each(code, positions.len()) + 1) as u8, margins);
     } else {
-        let k = code.k;
-        write_margins(code, positions, &zeros[..k], s, d, margins);
+        let n = params::data_count(code);
+        write_margins(code, positions, &zeros[..n], s, d, margins);
     }
 }

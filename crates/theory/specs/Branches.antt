@@ -14,7 +14,7 @@ use lib.Seq.{getD-take, getD-drop}
 use Rattle.model.specs.Code.{Code, dataCount, checksEach, branchAt, branchData, checksBy, checksOf, checkSumBy, shared, SelfOrthogonal, differencesBy, differences, allDifferent}
 use Rattle.model.specs.Symbols.{sub, same, count, sumOver, sumBelow}
 use Rattle.model.specs.Limits.{SizeLimits, TableLimits}
-use Rattle.theory.specs.Circulant.{row-sum, pairCount, common-pairs}
+use Rattle.theory.specs.Circulant.{row-sum, length-checksBy, pairCount, common-pairs}
 use Rattle.theory.specs.Counting.{is-true, same-yes, same-le, same-eq, All, Distinct, distinct-count, all-at, sum-ext, sum-zero, sum-term, sum-two, sum-one, sum-rows, sumOver-ext, some-term, sumOver-term, two-terms, sumOver-two}
 use Rattle.theory.specs.Modulo.{by-eq, cong-add, cong-cancel, sub-lt, sub-add, sub-self, sub-zero-eq, sub-cross, sub-no-borrow}
 use Rattle.theory.specs.Steps.{checkSum}
@@ -203,6 +203,11 @@ module _ (c : Code) (l : TableLimits c) where
   -- the branch of a data symbol
   pub branch-of : (j : ℕ) → j < dataCount c → j / c .k < c .b
   branch-of j h = div-lt-iff-lt-mul (l .sizes .k-low) .1 h
+
+  -- each data symbol has J checks
+  pub checks-length : (j : ℕ) → j < dataCount c → length (checksOf c j) ≡ checksEach c
+  unfolding checksOf
+  checks-length j h = length-checksBy (c .k) (branchAt c (j / c .k)) (j % c .k) ∙ branch-length (j / c .k) (branch-of j h)
 
   -- check i of the document is the sum over the data symbols that are in it
   pub branch-sum : (u : List ℕ) (i : ℕ) → i < c .k

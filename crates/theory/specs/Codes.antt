@@ -1,5 +1,5 @@
 -- A code as an incidence of its data symbols and checks: its check symbols, code words and opened states.
-use mathlib.Core.Path.{_≡_, ap, _∙_}
+use mathlib.Core.Path.{_≡_, ap}
 use mathlib.Core.List.{List, _++_}
 use Prim.Native.Nat.{ℕ, _/_, _%_, _≤_, _<_}
 use native.Mathlib.Nat.{mod-lt}
@@ -9,8 +9,8 @@ use Rattle.model.specs.Code.{Code, dataCount, checkCount, checksEach, branchAt,
 use Rattle.model.specs.Decoder.{opened}
 use Rattle.model.specs.Limits.{TableLimits}
 use Rattle.model.specs.Symbols.{sub, tabulate}
-use Rattle.theory.specs.Branches.{branch-length, branch-low, branch-apart, branch-of, branch-sum}
-use Rattle.theory.specs.Circulant.{length-checksBy, inside-checksBy, apart-checksBy}
+use Rattle.theory.specs.Branches.{checks-length, branch-low, branch-apart, branch-of, branch-sum}
+use Rattle.theory.specs.Circulant.{inside-checksBy, apart-checksBy}
 use Rattle.theory.specs.Distance.{tabulate-ext, checkSymbolsOf, wordOf}
 use Rattle.theory.specs.Falling.{Incidence}
 use Rattle.theory.specs.Page.{openedBy}
@@ -36,7 +36,7 @@ code-incidence c l =
     let run : ℕ → List ℕ = (λ j. branchAt c (j / c .k)) in
     record {
       pos = omega (arith, l .q-low);
-      size = (λ j h. length-checksBy (c .k) (run j) (j % c .k) ∙ branch-length c t (j / c .k) (branch-of c t j h));
+      size = checks-length c t;
       inside = (λ j h. inside-checksBy (c .k) (t .sizes .k-low) (run j) (j % c .k));
       apart = (λ j h. apart-checksBy (c .k) (t .sizes .k-low) (run j) (branch-low c t (j / c .k) (branch-of c t j h)) (branch-apart c t (j / c .k) (branch-of c t j h)) (j % c .k)
           (mod-lt j (t .sizes .k-low)));

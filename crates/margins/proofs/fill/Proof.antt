@@ -1,11 +1,11 @@
--- `fill`: at distance 0 every margin is J + 1, else the zeros are counted and each margin is written by them.
+-- `fill`: at distance 0 every margin is J + 1, else each is written by the zeros at its symbol's checks.
 use borrow.Author.Needs.{needs}
-use mathlib.Core.Path.{refl, sym, _∙_, ap}
-use mathlib.Core.List.{map}
+use mathlib.Core.Path.{_≡_, sym, _∙_, ap}
+use mathlib.Core.List.{List, map}
 use Prim.Native.Nat.{ℕ, _+_}
 use native.Mathlib.Omega.{arith}
 use lib.IntN.{pos, _-ℤ_}
-use lib.ListN.{length}
+use lib.ListN.{length, take}
 use lib.Seq.{length-take-le}
 use Rattle.model.specs.Decoder.{stateBy}
 use Rattle.model.specs.Symbols.{tabulate}
@@ -22,24 +22,35 @@ firm c = c .before .before .before .before .before
 abbrev other : tie.Else1 → tie.Start
 other c = c .before .before .before .before .before
 
+checks-each-requires : tie.Need-checks-each-requires
+checks-each-requires c κs = firm c .pre .0 .checks .table .sizes .b-low
+
 add-write-firm : tie.Need-add-write-firm
-add-write-firm c = let b = firm c in omega (arith, b .pre .0 .checks .table .J-high)
+add-write-firm c = let b = firm (c .before) in omega (arith, c .checks-each .ensures, b .pre .0 .checks .table .sizes .J-high)
 
 cast-write-firm : tie.Need-cast-write-firm
-cast-write-firm c = let b = firm c in omega (arith, b .pre .0 .checks .table .J-high)
+cast-write-firm c = let b = firm (c .before) in omega (arith, c .checks-each .ensures, b .pre .0 .checks .table .sizes .J-high)
 
 write-firm-requires : tie.Need-write-firm-requires
-write-firm-requires c κs = let b = firm (c .before) in omega (arith, b .pre .0 .checks .table .J-high)
+write-firm-requires c κs =
+    let e = c .before in
+    omega (arith, e .checks-each .ensures, firm (e .before) .pre .0 .checks .table .sizes .J-high)
+
+data-count-requires : tie.Need-data-count-requires
+data-count-requires c κs = omega (arith, other c .pre .0 .checks .table .sizes .data-high)
 
 slice-aggregate-write-margins : tie.Need-slice-aggregate-write-margins
-slice-aggregate-write-margins c = let b = other (c .before) in sym (length-take-le (b .args .code .k) (b .args .zeros .now) (b .pre .0 .room))
+slice-aggregate-write-margins c =
+    let n = c .before in
+    sym (length-take-le _ _ (omega (arith, n .data-count .ensures, other (n .before) .pre .0 .room)))
 
 write-margins-requires : tie.Need-write-margins-requires
 write-margins-requires c κs =
-    let e = c .before .before in
+    let n = c .before .before in
+    let e = n .before in
     let b = other e in
     let l = b .pre .0 in
-    (l .checks, l .counted (e .if1 .left), l .len-difference, b .pre .1)
+    (l .checks, ap (λ (m : ℕ). take m (b .args .zeros .now)) (n .data-count .ensures) ∙ l .counted (e .if1 .left), l .len-difference, b .pre .1)
 
 same-length : tie.Need-same-length
 same-length c = search needs
@@ -48,12 +59,13 @@ returns : tie.Need-returns
 unfolding stateWeight
 returns c r =
     let w = c .before in
-    let t = w .before .before in
+    let k = w .before .before in
+    let t = k .before in
     let b = firm t in
     let a = b .args in
     let code = codeBy (a .code) (a .positions .now) in
-    w .write-firm .ensures ∙ ap (λ (n : ℕ). map (λ j. pos (length (a .positions .now) + 1) -ℤ pos 0) (tabulate n (λ j. j))) (b .pre .1)
-    ∙ margins-firm code (stateBy r (a .s .now) (a .d .now)) _ refl (sym (b .pre .0 .weighed) ∙ t .if1 .taken)
+    w .write-firm .ensures ∙ ap (λ (n : ℕ). map (λ j. pos (k .checks-each .result + 1) -ℤ pos 0) (tabulate n (λ j. j))) (b .pre .1)
+    ∙ margins-firm code (b .pre .0 .checks .table) (stateBy r (a .s .now) (a .d .now)) _ (ap (λ (n : ℕ). n + 1) (k .checks-each .ensures)) (sym (b .pre .0 .weighed) ∙ t .if1 .taken)
 
 same-length-2 : tie.Need-same-length-2
 same-length-2 c = search needs
@@ -65,9 +77,11 @@ pub fill-spec : {M : Type 1} → statement M
 fill-spec =
     tie.close
     (tie.spec
+    checks-each-requires
     add-write-firm
     cast-write-firm
     write-firm-requires
+    data-count-requires
     slice-aggregate-write-margins
     write-margins-requires
     same-length

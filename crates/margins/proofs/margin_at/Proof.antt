@@ -8,8 +8,7 @@ use lib.ListN.{length}
 use mathlib.Core.List.{List}
 use Rattle.model.specs.Symbols.{count}
 use Rattle.model.specs.Vote.{margin}
-use Rattle.params.specs.Codes.{codeBy}
-use Rattle.checks.specs.Checks.{estimatesAt}
+use Rattle.checks.specs.Checks.{estimatesBy}
 use Rattle.theory.specs.Margins.{count-le}
 use Rattle.visits.specs.Estimates.{estimates-length, zeros-counted}
 use Rattle.margins.specs.Margins.{margin-firm, margin-but-one, others-few, read-back}
@@ -24,14 +23,14 @@ record Counted (es : List ℕ) (zeros J : ℕ) : Type 0 where
 
 -- the estimates, from where their zeros are counted
 abbrev estimates : tie.After-equal → List ℕ
-estimates c = let a = c .before .before .before .args in estimatesAt (codeBy (a .code) (a .positions .now)) (a .j) (a .own) (a .s .now)
+estimates c = let a = c .before .before .before .args in estimatesBy (a .code .k) (a .positions .now) (a .j) (a .own) (a .s .now)
 
 counted : (c : tie.After-equal) → Counted (estimates c) (c .before .before .before .args .others + c .equal .result) (length (c .before .before .before .args .positions .now))
 counted c =
     let b = c .before .before .before in
     let a = b .args in
-    let len = estimates-length (codeBy (a .code) (a .positions .now)) (a .j) (a .own) (a .s .now) in
-    record { zero-count = zeros-counted (a .own) _ _ _ (b .pre .2) (c .equal .ensures .0); len = len; few = omega (arith, len, b .pre .0 .table .J-high) }
+    let len = estimates-length (a .code .k) (a .positions .now) (a .j) (a .own) (a .s .now) in
+    record { zero-count = zeros-counted (a .own) _ _ _ (b .pre .2) (c .equal .ensures .0); len = len; few = omega (arith, len, b .pre .0 .J-high) }
 
 equal-requires : tie.Need-equal-requires
 equal-requires c κs = search needs
