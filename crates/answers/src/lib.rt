@@ -17,34 +17,35 @@ pub fn two_fit(a: usize, m: usize, b: usize, n: usize) -> bool
     b == n
 }
 
-// The lengths of the page and of the three lent buffers are as decode needs them, and so are the buffers that only one form of the call lends.
+// The lengths of the page and of the three lent buffers are as decode needs them, with n data symbols and k checks,
+// and so are the buffers that only one form of the call lends.
 pub fn decode_fits(
     others: bool,
-    code: Params,
+    n: usize,
+    k: usize,
     page: usize,
     result: usize,
     syndrome: usize,
     difference: usize,
 ) -> bool
-    ensures { λ r. ⌜ r ≡ (others && (eqb page (code .k + code .k) && (eqb result (code .k) && (eqb syndrome (code .k) && eqb difference (code .k))))) ⌝ }
+    ensures { λ r. ⌜ r ≡ (others && (eqb page (n + k) && (eqb result n && (eqb syndrome k && eqb difference n)))) ⌝ }
 {
     if !others {
         return false;
     }
-    let k = code.k;
     if page < k {
         return false;
     }
-    if page - k != k {
+    if page - k != n {
         return false;
     }
-    if result != k {
+    if result != n {
         return false;
     }
-    two_fit(syndrome, k, difference, k)
+    two_fit(syndrome, k, difference, n)
 }
 
-// Tests 1 to 7, of a call whose lent buffers fit or not and whose input is read: the number of the first that applies, or 0.
+// Tests 1 to 7 and 10, of a call whose lent buffers fit or not and whose input is read: the number of the first that applies, or 0.
 pub fn page_answer(code: Params, positions: &[u16], fits: bool, input: &[u8]) -> u32
     ensures { λ r. ⌜ r ≡ firstThatApplies (pageTests (codeBy code (now (positions .entry))) fits (now (input .entry))) ⌝ }
 {
@@ -74,7 +75,7 @@ pub fn threshold_answer(thresholds: &[u8]) -> u32
     0
 }
 
-// Tests 1 to 9.
+// Tests 1 to 10.
 pub fn decode_answer(
     code: Params,
     positions: &[u16],

@@ -20,8 +20,8 @@ pub fn open_page(
     ensures distance { λ r. ⌜ r
         ≡ distanceTo (codeBy code (now (positions .entry))) (now (page .entry)) (opened (codeBy code (now (positions .entry))) (now (page .entry))) ⌝ }
 {
-    let k = code.k;
-    slices::copy_into(result, &page[..k]);
+    let n = params::data_count(code);
+    slices::copy_into(result, &page[..n]);
     page::write_syndrome(code, positions, page, s);
     slices::clear(d);
     slices::weight_of(s)

@@ -1,29 +1,29 @@
 // Encode and syndrome: the calls, and the writing of checks and of a syndrome that they and decode share.
 use params::Params;
 ghost use mathlib.Core.Path.{_≡_};
-ghost use Prim.Native.Nat.{_+_, _≤_};
-ghost use lib.ListN.{length, drop};
+ghost use Prim.Native.Nat.{_≤_};
+ghost use lib.ListN.{length};
 ghost use Rattle.model.specs.Symbols.{Below};
-ghost use Rattle.model.specs.Code.{codeOf, checkSymbols, codeWord, syndrome};
+ghost use Rattle.model.specs.Code.{codeOf, dataCount, pageLength, checkSumBy, checkSymbols, codeWord, syndrome};
 ghost use Rattle.model.specs.Limits.{Ascending};
 ghost use Rattle.model.specs.Calls.{encodeOutcome, syndromeOutcome};
 ghost use Rattle.model.specs.Demand.{Encodes};
 ghost use Rattle.theory.specs.Codes.{ByteCode};
 ghost use Rattle.theory.specs.Steps.{SymbolsBelow};
 ghost use Rattle.params.specs.Codes.{codeBy};
-ghost use Rattle.page.specs.Checks.{addRows, Sums};
+ghost use Rattle.page.specs.Sums.{added};
+ghost use Rattle.page.specs.Rest.{restSum};
 
-// The rows of all positions but the first, added to the sums, two at a time.
+// The rows of the positions of a run, added to the sums, two at a time.
 fn add_rows(q: u32, positions: &[u16], data: &[u8], sums: &mut [u8])
     requires { ⌜ (2 ≤ q)
         × (q ≤ 256)
-        × (1 ≤ length (now positions))
         × Ascending (length (now «data»)) (now positions)
         × Below q (now «data»)
-        × Sums q (now «data») (now sums) ⌝ }
-    ensures { λ _. ⌜ now (sums .exit) ≡ addRows q (drop 1 (now (positions .entry))) (now («data» .entry)) (now (sums .entry)) ⌝ }
+        × SymbolsBelow q (length (now «data»)) (now sums) ⌝ }
+    ensures { λ _. ⌜ now (sums .exit) ≡ added q (checkSumBy (length (now («data» .entry))) (now (positions .entry)) (now («data» .entry))) (now (sums .entry)) ⌝ }
 {
-    let mut n = 1;
+    let mut n = 0;
     while n + 1 < positions.len() {
         let p = positions[n] as usize;
         let r = positions[n + 1] as usize;
@@ -36,46 +36,81 @@ fn add_rows(q: u32, positions: &[u16], data: &[u8], sums: &mut [u8])
     }
 }
 
+// The rows of all positions but the first of the table, added to the sums, branch by branch: branch r of the data starts at `at`,
+// and what is left of its run goes from `from` up to `to`.
+fn add_branches(code: Params, positions: &[u16], data: &[u8], sums: &mut [u8])
+    requires { ⌜ ByteCode (codeBy code (now positions))
+        × SymbolsBelow (code .q) (dataCount (codeBy code (now positions))) (now «data»)
+        × SymbolsBelow (code .q) (code .k) (now sums) ⌝ }
+    ensures { λ _. ⌜ now (sums .exit) ≡ added (code .q) (restSum (codeBy code (now (positions .entry))) (now («data» .entry)) (code .b)) (now (sums .entry)) ⌝ }
+{
+    let k = code.k;
+    let each = params::checks_each(code, positions.len());
+    let mut r = 0;
+    let mut at = 0;
+    let mut from = 1;
+    let mut to = each;
+    while r < code.b {
+        add_rows(code.q, &positions[from..to], &data[at..at + k], sums);
+        at += k;
+        from = to;
+        to += each;
+        r += 1;
+    }
+}
+
 // The check symbols of the data: the row of the first position, and the others added.
 fn write_checks(code: Params, positions: &[u16], data: &[u8], checks: &mut [u8])
-    requires { ⌜ ByteCode (codeBy code (now positions)) × SymbolsBelow (code .q) (code .k) (now «data») × (length (now checks) ≡ code .k) ⌝ }
+    requires { ⌜ ByteCode (codeBy code (now positions))
+        × SymbolsBelow (code .q) (dataCount (codeBy code (now positions))) (now «data»)
+        × (length (now checks) ≡ code .k) ⌝ }
     ensures { λ _. ⌜ now (checks .exit) ≡ checkSymbols (codeBy code (now (positions .entry))) (now («data» .entry)) ⌝ }
 {
+    let k = code.k;
     let first = positions[0] as usize;
-    rows::copy_row(first, checks, data);
-    add_rows(code.q, positions, data, checks);
+    rows::copy_row(first, checks, &data[..k]);
+    add_branches(code, positions, data, checks);
 }
 
 // The page of the data: the data, then its checks.
 fn write_page(code: Params, positions: &[u16], data: &[u8], page: &mut [u8])
-    requires { ⌜ ByteCode (codeBy code (now positions)) × SymbolsBelow (code .q) (code .k) (now «data») × (length (now page) ≡ code .k + code .k) ⌝ }
+    requires { ⌜ ByteCode (codeBy code (now positions))
+        × SymbolsBelow (code .q) (dataCount (codeBy code (now positions))) (now «data»)
+        × (length (now page) ≡ pageLength (codeBy code (now positions))) ⌝ }
     ensures { λ _. ⌜ now (page .exit) ≡ codeWord (codeBy code (now (positions .entry))) (now («data» .entry)) ⌝ }
 {
-    let k = code.k;
-    slices::copy_into(&mut page[..k], data);
-    write_checks(code, positions, data, &mut page[k..]);
+    let n = data.len();
+    slices::copy_into(&mut page[..n], data);
+    write_checks(code, positions, data, &mut page[n..]);
 }
 
 // The syndrome of a page: the row of the first position less the page's checks, and the other rows added.
 pub fn write_syndrome(code: Params, positions: &[u16], page: &[u8], s: &mut [u8])
-    requires { ⌜ ByteCode (codeBy code (now positions)) × SymbolsBelow (code .q) (code .k + code .k) (now page) × (length (now s) ≡ code .k) ⌝ }
+    requires { ⌜ ByteCode (codeBy code (now positions))
+        × SymbolsBelow (code .q) (pageLength (codeBy code (now positions))) (now page)
+        × (length (now s) ≡ code .k) ⌝ }
     ensures { λ _. ⌜ now (s .exit) ≡ syndrome (codeBy code (now (positions .entry))) (now (page .entry)) ⌝ }
 {
     let k = code.k;
+    let n = params::data_count(code);
     let first = positions[0] as usize;
-    rows::copy_row_less(code.q, first, s, &page[..k], &page[k..]);
-    add_rows(code.q, positions, &page[..k], s);
+    rows::copy_row_less(code.q, first, s, &page[..k], &page[n..]);
+    add_branches(code, positions, &page[..n], s);
 }
 
 // Writes the page of the data.
-pub fn encode(q: u32, k: u32, positions: &[u16], data: &[u8], page: &mut [u8]) -> u32
+pub fn encode(q: u32, k: u32, b: u32, positions: &[u16], data: &[u8], page: &mut [u8]) -> u32
     ensures outcome { λ r. ⌜ record { number = r; left = now (page .exit) }
-        ≡ encodeOutcome (codeOf q k (now (positions .entry))) (now («data» .entry)) (now (page .entry)) ⌝ }
-    ensures word { λ r. ⌜ (r ≡ 0 → Encodes (codeOf q k (now (positions .entry))) (now («data» .entry)) (now (page .exit))) ⌝ }
+        ≡ encodeOutcome (codeOf q k b (now (positions .entry))) (now («data» .entry)) (now (page .entry)) ⌝ }
+    ensures word { λ r. ⌜ (r ≡ 0 → Encodes (codeOf q k b (now (positions .entry))) (now («data» .entry)) (now (page .exit))) ⌝ }
 {
-    let n = k as usize;
-    let code = Params { q, k: n };
-    let fits = answers::two_fit(data.len(), n, page.len(), n + n);
+    let code = Params {
+        q,
+        k: k as usize,
+        b: b as usize,
+    };
+    let n = params::data_count(code);
+    let fits = answers::two_fit(data.len(), n, page.len(), n + code.k);
     let number = answers::page_answer(code, positions, fits, data);
     if number != 0 {
         return number;
@@ -85,13 +120,17 @@ pub fn encode(q: u32, k: u32, positions: &[u16], data: &[u8], page: &mut [u8]) -
 }
 
 // Writes the syndrome of a page.
-pub fn syndrome(q: u32, k: u32, positions: &[u16], page: &[u8], s: &mut [u8]) -> u32
+pub fn syndrome(q: u32, k: u32, b: u32, positions: &[u16], page: &[u8], s: &mut [u8]) -> u32
     ensures { λ r. ⌜ record { number = r; left = now (s .exit) }
-        ≡ syndromeOutcome (codeOf q k (now (positions .entry))) (now (page .entry)) (now (s .entry)) ⌝ }
+        ≡ syndromeOutcome (codeOf q k b (now (positions .entry))) (now (page .entry)) (now (s .entry)) ⌝ }
 {
-    let n = k as usize;
-    let code = Params { q, k: n };
-    let fits = answers::two_fit(page.len(), n + n, s.len(), n);
+    let code = Params {
+        q,
+        k: k as usize,
+        b: b as usize,
+    };
+    let n = params::data_count(code);
+    let fits = answers::two_fit(page.len(), n + code.k, s.len(), code.k);
     let number = answers::page_answer(code, positions, fits, page);
     if number != 0 {
         return number;

@@ -1,2 +1,3 @@
--- The code that parameters and a table stand for.
+-- The code that parameters and a table stand for, and its sizes.
 pub mod Codes
+pub mod Sizes

@@ -1,24 +1,25 @@
--- The folded differences of positions: of two opposite differences d and k − d the smaller, once for each pair of positions.
--- The differences of all ordered pairs are all different just where no folded one stands twice and none is half of k.
-use mathlib.Core.Path.{_≡_, refl, ap, sym, _∙_, subst}
+-- The folded differences of positions: of two opposite differences d and k − d the smaller, once for each pair of positions of a run.
+-- The differences of all runs are all different just where, over all runs together, no folded one stands twice and none is half of k.
+use mathlib.Core.Path.{_≡_, refl, ap, _∙_}
 use mathlib.Core.Logic.{_↔_}
 use mathlib.Core.Bool.{Bool, true, false}
 use mathlib.Core.List.{List, [], _∷_, _++_}
-use Prim.Native.Nat.{ℕ, suc, _+_, _-_, _/_, _≤_, _<_, min}
+use Prim.Native.Nat.{ℕ, zero, suc, _+_, _-_, _/_, _≤_, _<_, min}
 use native.Mathlib.Decide.{ℕ-discrete, decLe}
 use native.Mathlib.Numerals.{add-one}
 use native.Mathlib.Omega.{arith}
-use lib.Dec.{T}
 use lib.ListN.{length, getD, set, take, drop, length-drop, drop-of-length-le}
 use lib.Seq.{drop-cons, take-all, getD-set-same, getD-set-other}
 use Rattle.model.specs.Calls.{positionsFit}
-use Rattle.model.specs.Code.{differencesBy, allDifferent}
-use Rattle.model.specs.Symbols.{choose, sub, same, count, sumOver}
-use Rattle.theory.specs.Circulant.{pairCount, same-iff, once-cross}
-use Rattle.theory.specs.Counting.{is-true, same-yes, same-no, same-le, sumOver-add, All, all-at}
+use Rattle.model.specs.Code.{Code, branchAt, differences, allDifferent}
+use Rattle.model.specs.Limits.{TableLimits}
+use Rattle.model.specs.Symbols.{choose, sub, same, count, sumOver, joinBelow}
+use Rattle.theory.specs.Branches.{runPairs, different-once}
+use Rattle.theory.specs.Circulant.{pairCount, same-iff}
+use Rattle.theory.specs.Counting.{same-yes, same-no, same-le, sumOver-add, sum-ext, sum-add, All, all-at}
 use Rattle.theory.specs.Modulo.{sub-self, sub-no-borrow, sub-borrow}
-use Rattle.theory.specs.Tables.{count-append, fit-cons, rising-facts, accepted-table, refused-table}
-use Rattle.table.specs.Marks.{Marks, marksOf, mark, mark-append, mark-none, fresh-once, same-truth}
+use Rattle.theory.specs.Tables.{count-append, count-join, fit-cons, fit-test}
+use Rattle.table.specs.Marks.{marksOf, mark, mark-append, mark-none, fresh-once, same-truth}
 use Rattle.table.specs.Table.{fit-above}
 
 -- of a difference d and its opposite the smaller
@@ -104,62 +105,88 @@ by-folded k least (b ∷ later) t =
     all-append (Folded k) (foldedFrom k b later) (foldedBy k later) (from-folded k b later (fit-above k (suc b) (suc b) (omega arith) later (f .2)))
     (by-folded k (suc b) later (f .2))
 
+all-join : (P : ℕ → Type 0) (n : ℕ) (f : ℕ → List ℕ) → ((r : ℕ) → r < n → All P (f r)) → All P (joinBelow n f)
+unfolding joinBelow
+all-join P zero f a = tt
+all-join P (suc n) f a = all-append P (joinBelow n f) (f n) (all-join P n f (λ r h. a r (omega arith))) (a n (omega arith))
+
 all-weaken : (P Q : ℕ → Type 0) → ((x : ℕ) → P x → Q x) → (xs : List ℕ) → All P xs → All Q xs
 all-weaken P Q f [] a = tt
 all-weaken P Q f (x ∷ xs) a = (f x (a .0), all-weaken P Q f xs (a .1))
 
 -- ---- when the differences are all different
 
+-- the folded differences of run r
+abbrev pub runFolded : Code → ℕ → List ℕ
+runFolded c r = foldedBy (c .k) (branchAt c r)
+
+-- and of all runs together
+abbrev pub allFolded : Code → List ℕ
+allFolded c = joinBelow (c .b) (runFolded c)
+
 -- no folded value stands twice, and half of k not at all
-abbrev pub FoldedOnce : ℕ → List ℕ → Type 0
-FoldedOnce k ps = (w : ℕ) → same (w + w) k + count w (foldedBy k ps) ≤ 1
+abbrev FoldedOnce : Code → Type 0
+FoldedOnce c = (w : ℕ) → same (w + w) (c .k) + count w (allFolded c) ≤ 1
 
-module _ (k : ℕ) (ps : List ℕ) (pos : 0 < k) (t : positionsFit k 0 ps ≡ true) where
-  not-folded : (w : ℕ) → (Folded k w → ⊥) → count w (foldedBy k ps) ≡ 0
-  not-folded w n = elim (decLe (count w (foldedBy k ps)) 0) as (λ o. count w (foldedBy k ps) ≡ 0)
-      [ yes z ↦ omega arith | no m ↦ absurd (n (all-at (Folded k) (foldedBy k ps) (by-folded k 0 ps t) w (omega arith))) ]
+module _ (c : Code) (l : TableLimits c) where
+  pub run-fits : (r : ℕ) → r < c .b → positionsFit (c .k) 0 (branchAt c r) ≡ true
+  run-fits r h = fit-test (c .k) (branchAt c r) .1 (l .ascending r h)
 
-  half-count : (w : ℕ) → w + w ≡ k → count (k - w) (foldedBy k ps) ≡ count w (foldedBy k ps)
-  half-count w e = ap (λ (x : ℕ). count x (foldedBy k ps)) (omega arith)
+  each-folded : All (Folded (c .k)) (allFolded c)
+  each-folded = all-join (Folded (c .k)) (c .b) (runFolded c) (λ r h. by-folded (c .k) 0 (branchAt c r) (run-fits r h))
 
-  once-folded : ((d : ℕ) → 0 < d → d < k → pairCount k ps ps d ≤ 1) → FoldedOnce k ps
-  once-folded f w = elim (decLe (count w (foldedBy k ps)) 0) as (λ o. same (w + w) k + count w (foldedBy k ps) ≤ 1) [
-    | yes z ↦ omega (arith, same-le (w + w) k)
+  not-folded : (w : ℕ) → (Folded (c .k) w → ⊥) → count w (allFolded c) ≡ 0
+  not-folded w n = elim (decLe (count w (allFolded c)) 0) as (λ o. count w (allFolded c) ≡ 0)
+      [ yes z ↦ omega arith | no m ↦ absurd (n (all-at (Folded (c .k)) (allFolded c) each-folded w (omega arith))) ]
+
+  half-count : (w : ℕ) → w + w ≡ c .k → count (c .k - w) (allFolded c) ≡ count w (allFolded c)
+  half-count w e = ap (λ (x : ℕ). count x (allFolded c)) (omega arith)
+
+  -- the pairs of one run, over all runs
+  runs-count : (v : ℕ) → 0 < v → v < c .k → runPairs c l v ≡ count v (allFolded c) + count (c .k - v) (allFolded c)
+  runs-count v p h =
+      sum-ext (c .b) (λ r. pairCount (c .k) (branchAt c r) (branchAt c r) v) (λ r. count v (runFolded c r) + count (c .k - v) (runFolded c r))
+      (λ r hr. pair-count (c .k) v p h 0 (branchAt c r) (run-fits r hr))
+      ∙ omega (
+        arith,
+        sum-add (c .b) (λ r. count v (runFolded c r)) (λ r. count (c .k - v) (runFolded c r)),
+        count-join v (c .b) (runFolded c),
+        count-join (c .k - v) (c .b) (runFolded c),
+      )
+
+  once-folded : ((v : ℕ) → 0 < v → v < c .k → runPairs c l v ≤ 1) → FoldedOnce c
+  once-folded f w = elim (decLe (count w (allFolded c)) 0) as (λ o. same (w + w) (c .k) + count w (allFolded c) ≤ 1) [
+    | yes z ↦ omega (arith, same-le (w + w) (c .k))
     | no n ↦
-        let r = all-at (Folded k) (foldedBy k ps) (by-folded k 0 ps t) w (omega arith) in
-        let l : w < k = omega (arith, r) in
-        let c = pair-count k w (r .0) l 0 ps t in
-        let o = f w (r .0) l in
-        elim (ℕ-discrete (w + w) k) as (λ o. same (w + w) k + count w (foldedBy k ps) ≤ 1)
-        [ yes e ↦ omega (arith, same-le (w + w) k, half-count w e) | no m ↦ omega (arith, same-no (w + w) k m) ]
+        let r = all-at (Folded (c .k)) (allFolded c) each-folded w (omega arith) in
+        let h : w < c .k = omega (arith, r) in
+        let e = runs-count w (r .0) h in
+        let o = f w (r .0) h in
+        elim (ℕ-discrete (w + w) (c .k)) as (λ o. same (w + w) (c .k) + count w (allFolded c) ≤ 1)
+        [ yes m ↦ omega (arith, same-le (w + w) (c .k), half-count w m) | no m ↦ omega (arith, same-no (w + w) (c .k) m) ]
   ]
 
-  folded-once : FoldedOnce k ps → (d : ℕ) → 0 < d → d < k → pairCount k ps ps d ≤ 1
-  folded-once f d p h =
-      let c = pair-count k d p h 0 ps t in
-      elim (ℕ-discrete (d + d) k) as (λ o. pairCount k ps ps d ≤ 1) [
-        | yes e ↦ omega (arith, f d, same-yes (d + d) k e, half-count d e)
-        | no n ↦ elim (decLe (d + d) k) as (λ o. pairCount k ps ps d ≤ 1) [
-          | yes l ↦ omega (arith, f d, not-folded (k - d) (λ r. omega (arith, r)))
-          | no m ↦ omega (arith, f (k - d), not-folded d (λ r. omega (arith, r)))
+  folded-once : FoldedOnce c → (v : ℕ) → 0 < v → v < c .k → runPairs c l v ≤ 1
+  folded-once f v p h =
+      let e = runs-count v p h in
+      elim (ℕ-discrete (v + v) (c .k)) as (λ o. runPairs c l v ≤ 1) [
+        | yes m ↦ omega (arith, f v, same-yes (v + v) (c .k) m, half-count v m)
+        | no n ↦ elim (decLe (v + v) (c .k)) as (λ o. runPairs c l v ≤ 1) [
+          | yes g ↦ omega (arith, f v, not-folded (c .k - v) (λ r. omega (arith, r)))
+          | no g ↦ omega (arith, f (c .k - v), not-folded v (λ r. omega (arith, r)))
         ]
       ]
 
-  pub different-folded : (allDifferent (differencesBy k ps ps) ≡ true) ↔ FoldedOnce k ps
-  different-folded =
-      let r = rising-facts k 0 ps t in (
-        λ e. once-folded (accepted-table k pos ps t (subst T (sym e) tt) .once),
-        λ f. is-true (allDifferent (differencesBy k ps ps)) (refused-table k pos ps (r .0) (once-cross k pos ps (record { low = r .0; apart = r .1; once = folded-once f }))),
-      )
+  different-folded : (allDifferent (differences c) ≡ true) ↔ FoldedOnce c
+  different-folded = (λ e. once-folded (different-once c l .0 e), λ f. different-once c l .1 (folded-once f))
 
   -- what marking the folded differences tells, where the flag of half of k alone stands at first
-  pub marks-tell : (seen : List ℕ) → k < length seen + length seen → ((w : ℕ) → getD seen w 0 ≡ same (w + w) k)
-      → (r : Bool) (flags : List ℕ) → marksOf r flags ≡ mark (foldedBy k ps) seen → r ≡ allDifferent (differencesBy k ps ps)
-  marks-tell seen fits z r flags e =
-      let inside = all-weaken (Folded k) (λ w. w < length seen) (λ w g. omega (arith, g)) (foldedBy k ps) (by-folded k 0 ps t) in
-      let f = fresh-once (foldedBy k ps) seen inside (λ w. omega (arith, z w, same-le (w + w) k)) in
-      ap (λ (m : Marks). m .fresh) e
-      ∙ same-truth (mark (foldedBy k ps) seen .fresh) (allDifferent (differencesBy k ps ps))
+  pub marks-tell : (seen : List ℕ) → c .k < length seen + length seen → ((w : ℕ) → getD seen w 0 ≡ same (w + w) (c .k))
+      → mark (allFolded c) seen .fresh ≡ allDifferent (differences c)
+  marks-tell seen fits z =
+      let inside = all-weaken (Folded (c .k)) (λ w. w < length seen) (λ w g. omega (arith, g)) (allFolded c) each-folded in
+      let f = fresh-once (allFolded c) seen inside (λ w. omega (arith, z w, same-le (w + w) (c .k))) in
+      same-truth (mark (allFolded c) seen .fresh) (allDifferent (differences c))
       (λ a. different-folded .1 (λ w. omega (arith, z w, f .0 a w)))
       (λ a. f .1 (λ w. omega (arith, z w, different-folded .0 a w)))
 

@@ -1,15 +1,16 @@
 -- Values marked in a row of flags: a value whose flag stands already stops the marking, and none does where each is new.
-use mathlib.Core.Path.{_≡_, refl, sym, subst}
+use mathlib.Core.Path.{_≡_, refl, ap, sym, _∙_, subst}
 use mathlib.Core.Logic.{_≢_, _↔_}
 use mathlib.Core.Bool.{Bool, true, false}
 use mathlib.Core.List.{List, [], _∷_, _++_}
-use Prim.Native.Nat.{ℕ, _+_, _≤_, _<_}
+use Prim.Native.Nat.{ℕ, zero, suc, _+_, _≤_, _<_}
 use native.Mathlib.Decide.{ℕ-discrete}
+use native.Mathlib.Numerals.{add-one}
 use native.Mathlib.Omega.{arith}
 use lib.Dec.{T, eqb}
 use lib.ListN.{length, getD, set, length-set}
 use lib.Seq.{getD-set-same, getD-set-other}
-use Rattle.model.specs.Symbols.{choose, count}
+use Rattle.model.specs.Symbols.{choose, count, joinBelow}
 use Rattle.theory.specs.Counting.{eqb-yes, eqb-no, same-yes, same-no, count-nil, count-cons, All}
 
 -- whether all values were new, and the flags
@@ -51,6 +52,37 @@ mark-again v vs seen n = rw (eqb-no (getD seen v 0) 0 n)
 pub mark-none : (seen : List ℕ) → mark [] seen ≡ marksOf true seen
 unfolding mark
 mark-none seen = refl
+
+-- ---- the lists f 0, f 1, .. marked one after the other
+
+module _ (f : ℕ → List ℕ) (seen : List ℕ) where
+  pub join-none : mark (joinBelow 0 f) seen ≡ marksOf true seen
+  unfolding joinBelow
+  join-none = mark-none seen
+
+  -- all before i were new: what marking f i adds
+  join-next : (i : ℕ) (flags : List ℕ) → mark (joinBelow i f) seen ≡ marksOf true flags → mark (joinBelow (suc i) f) seen ≡ mark (f i) flags
+  unfolding joinBelow
+  join-next i flags e = mark-append (joinBelow i f) (f i) seen ∙ ap (onto (f i)) e
+
+  -- all of f i were new, too
+  pub join-go : (i : ℕ) (flags : List ℕ) → mark (joinBelow i f) seen ≡ marksOf true flags → (r : Bool) (next : List ℕ) → marksOf r next ≡ mark (f i) flags → r ≡ true
+      → mark (joinBelow (i + 1) f) seen ≡ marksOf true next
+  join-go i flags e r next g t = rw (add-one i) (join-next i flags e ∙ sym g ∙ ap (λ (b : Bool). marksOf b next) t)
+
+  -- one was not, and so not all of more lists are
+  pub join-stop : (n i : ℕ) → i < n → (flags : List ℕ) → mark (joinBelow i f) seen ≡ marksOf true flags → (r : Bool) (next : List ℕ) → marksOf r next ≡ mark (f i) flags
+      → r ≡ false → mark (joinBelow n f) seen .fresh ≡ false
+  unfolding joinBelow
+  join-stop zero i h flags e r next g t = absurd (omega arith)
+  join-stop (suc n) i h flags e r next g t = elim (ℕ-discrete i n) as (λ o. mark (joinBelow (suc n) f) seen .fresh ≡ false) [
+    | yes p ↦ ap (λ (m : Marks). m .fresh) (sym (ap (λ (x : ℕ). mark (joinBelow (suc x) f) seen) p) ∙ join-next i flags e ∙ sym g) ∙ t
+    | no p ↦ ap (λ (m : Marks). m .fresh) (mark-append (joinBelow n f) (f n) seen)
+        ∙ stays (mark (joinBelow n f) seen) (join-stop n i (omega arith) flags e r next g t)
+  ]
+    where
+      stays : (m : Marks) → m .fresh ≡ false → onto (f n) m .fresh ≡ false
+      stays m z = rw z refl
 
 -- ---- when all were new
 

@@ -5,21 +5,25 @@ use Prim.Native.Nat.{ℕ, _+_, _≤_, _<_, _-_}
 use native.Mathlib.Numerals.{add-one}
 use native.Mathlib.Omega.{arith}
 use lib.ListN.{length, getD, drop}
+use Rattle.model.specs.Code.{checkSumBy}
 use Rattle.model.specs.Symbols.{addEach}
-use Rattle.rows.specs.Rows.{row}
-use Rattle.page.specs.Checks.{addRows, rows-turn, rows-two, rows-end, Sums, sums-more}
+use Rattle.theory.specs.Steps.{SymbolsBelow}
+use Rattle.rows.specs.Rows.{row, each-length}
+use Rattle.page.specs.Sums.{added, rows-turn, rows-two, rows-end, each-below}
 use Rattle.page.proofs.add_rows.Statement.{statement}
 use Rattle.page.proofs.add_rows.Tie as tie
 
 abbrev Inv-loop : tie.InvT-loop
 Inv-loop q positions «data» sums₀ n₀ sums n =
-    (n ≤ length positions) × Sums q «data» sums × (addRows q (drop n positions) «data» sums ≡ addRows q (drop 1 positions) «data» sums₀)
+    (n ≤ length positions)
+    × SymbolsBelow q (length «data») sums
+    × (added q (checkSumBy (length «data») (drop n positions) «data») sums ≡ added q (checkSumBy (length «data») positions «data») sums₀)
 
 abbrev μ-loop : tie.MeasureT-loop
 μ-loop q positions «data» sums₀ n₀ sums n = length positions - n
 
 loop-holds : tie.Need-loop-holds Inv-loop μ-loop
-loop-holds c = let b = c .before .before .before in (b .pre .2, b .pre .5, refl)
+loop-holds c = let b = c .before .before .before in (omega arith, b .pre .4, refl)
 
 add-loop : tie.Need-add-loop Inv-loop μ-loop
 add-loop c = omega arith
@@ -50,14 +54,14 @@ add-two-rows-requires c κs =
     let i = c .before .before .before .before .loop in
     let b = c .before .before .before .before .before .before .before .before in
     let ps : List ℕ = b .args .positions .now in
-    let up : getD ps (i .n) 0 < getD ps (i .n + 1) 0 = rw (add-one (i .n)) (b .pre .3 .above (i .n) (omega arith)) in (
+    let up : getD ps (i .n) 0 < getD ps (i .n + 1) 0 = rw (add-one (i .n)) (b .pre .2 .above (i .n) (omega arith)) in (
       b .pre .0,
       b .pre .1,
-      i .inv .1 .sized,
+      i .inv .1 .len,
       omega (arith, up),
-      omega (arith, up, b .pre .3 .below (i .n + 1) (omega arith)),
+      omega (arith, up, b .pre .2 .below (i .n + 1) (omega arith)),
       i .inv .1 .low,
-      b .pre .4,
+      b .pre .3,
     )
 
 add-n : tie.Need-add-n Inv-loop μ-loop
@@ -75,11 +79,12 @@ loop-again c =
     let u : List ℕ = b .args .«data» .now in
     let first : List ℕ = row (getD ps (i .n) 0) u in
     let second : List ℕ = row (getD ps (i .n + 1) 0) u in
-    let more = sums-more q (omega (arith, b .pre .0)) u in
     let e = c .before .before .add-two-rows .ensures in (
       omega arith,
-      subst (Sums q u) (sym e) (more (addEach q (i .sums) first) second (more (i .sums) first (i .inv .1))),
-      ap (λ (s : List ℕ). addRows q (drop (i .n + 2) ps) u s) e ∙ sym (rows-two q ps u (i .sums) (i .n) (omega arith)) ∙ i .inv .2,
+      subst (SymbolsBelow q (length u)) (sym e)
+          (each-below q (omega (arith, b .pre .0)) (length u) (addEach q (i .sums) first) second (each-length q (i .sums) first ∙ i .inv .1 .len)),
+      ap (λ (s : List ℕ). added q (checkSumBy (length u) (drop (i .n + 2) ps) u) s) e
+          ∙ sym (rows-two q ps u (i .sums) (i .n) (i .inv .1 .len) (omega arith)) ∙ i .inv .2,
     )
 
 mul-p-2 : tie.Need-mul-p-2 Inv-loop μ-loop
@@ -95,7 +100,7 @@ add-row-requires : tie.Need-add-row-requires Inv-loop μ-loop
 add-row-requires c κs =
     let i = c .before .before .before .before .loop in
     let b = c .before .before .before .before .before .before .before .before in
-    (b .pre .0, b .pre .1, i .inv .1 .sized, b .pre .3 .below (i .n) (omega arith), i .inv .1 .low, b .pre .4)
+    (b .pre .0, b .pre .1, i .inv .1 .len, b .pre .2 .below (i .n) (omega arith), i .inv .1 .low, b .pre .3)
 
 same-length : tie.Need-same-length Inv-loop μ-loop
 same-length c = omega arith
@@ -103,11 +108,14 @@ same-length c = omega arith
 returns : tie.Need-returns Inv-loop μ-loop
 returns c =
     let i = c .before .before .before .before .before .before .before .loop in
-    let x = c .before .before .before .before .before .before .before .before .before .before .before .args in
-    let ps : List ℕ = x .positions .now in
-    let u : List ℕ = x .«data» .now in
-    c .before .before .add-row .ensures ∙ sym (rows-end (x .q) ps u (addEach (x .q) (i .sums) (row (getD ps (i .n) 0) u)) (i .n + 1) (omega arith))
-    ∙ sym (rows-turn (x .q) ps u (i .sums) (i .n) (omega arith)) ∙ i .inv .2
+    let b = c .before .before .before .before .before .before .before .before .before .before .before in
+    let q : ℕ = b .args .q in
+    let ps : List ℕ = b .args .positions .now in
+    let u : List ℕ = b .args .«data» .now in
+    let last : List ℕ = row (getD ps (i .n) 0) u in
+    c .before .before .add-row .ensures
+    ∙ rows-end q ps u (addEach q (i .sums) last) (i .n + 1) (each-below q (omega (arith, b .pre .0)) (length u) (i .sums) last (i .inv .1 .len)) (omega arith)
+    ∙ sym (rows-turn q ps u (i .sums) (i .n) (i .inv .1 .len) (omega arith)) ∙ i .inv .2
 
 same-length-2 : tie.Need-same-length-2 Inv-loop μ-loop
 same-length-2 c = omega arith
@@ -116,7 +124,7 @@ returns-2 : tie.Need-returns-2 Inv-loop μ-loop
 returns-2 c =
     let i = c .before .before .loop in
     let x = c .before .before .before .before .before .before .args in
-    sym (rows-end (x .q) (x .positions .now) (x .«data» .now) (i .sums) (i .n) (omega arith)) ∙ i .inv .2
+    rows-end (x .q) (x .positions .now) (x .«data» .now) (i .sums) (i .n) (i .inv .1) (omega arith) ∙ i .inv .2
 
 pub add-rows-spec : {M : Type 1} → statement M
 add-rows-spec =

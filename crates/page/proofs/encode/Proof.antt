@@ -1,19 +1,30 @@
 -- `encode`: refused, the page is as it was lent; done, it is the code word of the data.
 use borrow.Author.Needs.{needs}
 use mathlib.Core.Path.{_≡_, sym, _∙_, ap}
-use Prim.Native.Nat.{ℕ, _+_}
+use mathlib.Core.Bool.{_&&_}
+use Prim.Native.Nat.{ℕ, _+_, _*_, _≤_}
+use native.Mathlib.Omega.{arith}
+use lib.Dec.{eqb}
 use lib.ListN.{length}
-use Rattle.model.specs.Calls.{encodeAnswer, encodeOutcome}
-use Rattle.model.specs.Code.{codeOf}
+use Rattle.model.specs.Calls.{encodeFits, encodeAnswer, encodeOutcome}
+use Rattle.model.specs.Code.{Code, codeOf, dataCount, pageLength}
 use Rattle.theory.specs.Codes.{ByteCode}
 use Rattle.theory.specs.Outcomes.{left-as-lent, left-as-done}
 use Rattle.theory.specs.Steps.{SymbolsBelow}
+use Rattle.params.specs.Sizes.{sizes-fit}
 use Rattle.page.specs.Calls.{number-by, taken}
 use Rattle.page.proofs.encode.Statement.{statement}
 use Rattle.page.proofs.encode.Tie as tie
 
+-- the lengths that fit are at most those of the largest k and b
+sized : (b : tie.Start) → b .args .b * b .args .k + b .args .k ≤ 18446744073709551615
+sized b = sizes-fit (b .args .k) (b .args .b) (omega (arith, b .fits .k)) (omega (arith, b .fits .b))
+
+data-count-requires : tie.Need-data-count-requires
+data-count-requires c κs = omega (arith, sized (c .before .before .before))
+
 add-two-fit : tie.Need-add-two-fit
-add-two-fit c = search needs
+add-two-fit c = omega (arith, sized (c .before .before .before .before .before), c .before .data-count .ensures)
 
 two-fit-requires : tie.Need-two-fit-requires
 two-fit-requires c κs = search needs
@@ -21,24 +32,37 @@ two-fit-requires c κs = search needs
 page-answer-requires : tie.Need-page-answer-requires
 page-answer-requires c κs = search needs
 
+-- the start, from where the lengths are tested
+abbrev start : tie.After-two-fit → tie.Start
+start p = p .before .before .before .before .before .before
+
+-- the call's code
+abbrev code : tie.Start → Code
+code b = codeOf (b .args .q) (b .args .k) (b .args .b) (b .args .positions .now)
+
+fitting : (p : tie.After-two-fit) → p .two-fit .result ≡ encodeFits (code (start p)) (length (start p .args .«data» .now)) (length (start p .args .page .now))
+fitting p =
+    let a = start p .args in
+    p .two-fit .ensures ∙ ap (λ (n : ℕ). eqb (length (a .«data» .now)) n && eqb (length (a .page .now)) (n + a .k)) (p .before .before .data-count .ensures)
+
 -- the number returned is encode's
 number : (p : tie.After-page-answer)
-    → let a = p .before .before .before .before .before .args in
-    p .page-answer .result ≡ encodeAnswer (codeOf (a .q) (a .k) (a .positions .now)) (a .«data» .now) (length (a .page .now))
+    → let b = start (p .before) in
+    p .page-answer .result ≡ encodeAnswer (code b) (b .args .«data» .now) (length (b .args .page .now))
 unfolding encodeAnswer
 number p =
-    let a = p .before .before .before .before .before .args in
-    number-by (codeOf (a .q) (a .k) (a .positions .now)) (a .«data» .now) (a .k) (length (a .page .now)) (a .k + a .k) _ (p .before .two-fit .ensures) _
+    let b = start (p .before) in
+    number-by (code b) (b .args .«data» .now) (dataCount (code b)) (length (b .args .page .now)) (pageLength (code b)) _ (fitting (p .before)) _
     (p .page-answer .ensures)
 
 -- what it works on where it is not refused
 works : (c : tie.Else1)
-    → let a = c .before .before .before .before .before .before .args in
-    ByteCode (codeOf (a .q) (a .k) (a .positions .now)) × SymbolsBelow (a .q) (a .k) (a .«data» .now) × (length (a .page .now) ≡ a .k + a .k)
+    → let b = start (c .before .before) in
+    ByteCode (code b) × SymbolsBelow (b .args .q) (dataCount (code b)) (b .args .«data» .now) × (length (b .args .page .now) ≡ pageLength (code b))
 works c =
     let p = c .before in
-    let a = p .before .before .before .before .before .args in
-    taken (codeOf (a .q) (a .k) (a .positions .now)) (a .«data» .now) (a .k) (length (a .page .now)) (a .k + a .k) _ (p .before .two-fit .ensures) _
+    let b = start (p .before) in
+    taken (code b) (b .args .«data» .now) (dataCount (code b)) (length (b .args .page .now)) (pageLength (code b)) _ (fitting (p .before)) _
     (p .page-answer .ensures) (c .if1 .left)
 
 returns : tie.Need-returns
@@ -57,15 +81,16 @@ returns-2 c =
     let w = c .before .before in
     let left = w .before .before in
     let n = sym (left .if1 .left) ∙ number (left .before) in
-    let a = left .before .before .before .before .before .before .args in (
+    let b = start (left .before .before) in (
       left-as-done _ _ _ _ n (w .write-page .ensures),
-      λ e. (sym (n ∙ ap (λ (l : ℕ). encodeAnswer (codeOf (a .q) (a .k) (a .positions .now)) (a .«data» .now) l) (works left .2)), w .write-page .ensures),
+      λ e. (sym (n ∙ ap (λ (l : ℕ). encodeAnswer (code b) (b .args .«data» .now) l) (works left .2)), w .write-page .ensures),
     )
 
 pub encode-spec : {M : Type 1} → statement M
 encode-spec =
     tie.close
     (tie.spec
+    data-count-requires
     add-two-fit
     two-fit-requires
     page-answer-requires

@@ -1,19 +1,30 @@
 -- `syndrome`: refused, S is as it was lent; done, it is the syndrome of the page.
 use borrow.Author.Needs.{needs}
-use mathlib.Core.Path.{_≡_, sym, _∙_}
-use Prim.Native.Nat.{_+_}
+use mathlib.Core.Path.{_≡_, sym, _∙_, ap}
+use mathlib.Core.Bool.{_&&_}
+use Prim.Native.Nat.{ℕ, _+_, _*_, _≤_}
+use native.Mathlib.Omega.{arith}
+use lib.Dec.{eqb}
 use lib.ListN.{length}
-use Rattle.model.specs.Calls.{syndromeAnswer, syndromeOutcome}
-use Rattle.model.specs.Code.{codeOf}
+use Rattle.model.specs.Calls.{syndromeFits, syndromeAnswer, syndromeOutcome}
+use Rattle.model.specs.Code.{Code, codeOf, pageLength}
 use Rattle.theory.specs.Codes.{ByteCode}
 use Rattle.theory.specs.Outcomes.{left-as-lent, left-as-done}
 use Rattle.theory.specs.Steps.{SymbolsBelow}
+use Rattle.params.specs.Sizes.{sizes-fit}
 use Rattle.page.specs.Calls.{number-by, taken}
 use Rattle.page.proofs.syndrome.Statement.{statement}
 use Rattle.page.proofs.syndrome.Tie as tie
 
+-- the lengths that fit are at most those of the largest k and b
+sized : (b : tie.Start) → b .args .b * b .args .k + b .args .k ≤ 18446744073709551615
+sized b = sizes-fit (b .args .k) (b .args .b) (omega (arith, b .fits .k)) (omega (arith, b .fits .b))
+
+data-count-requires : tie.Need-data-count-requires
+data-count-requires c κs = omega (arith, sized (c .before .before .before))
+
 add-two-fit : tie.Need-add-two-fit
-add-two-fit c = search needs
+add-two-fit c = omega (arith, sized (c .before .before .before .before .before), c .before .data-count .ensures)
 
 two-fit-requires : tie.Need-two-fit-requires
 two-fit-requires c κs = search needs
@@ -21,24 +32,37 @@ two-fit-requires c κs = search needs
 page-answer-requires : tie.Need-page-answer-requires
 page-answer-requires c κs = search needs
 
+-- the start, from where the lengths are tested
+abbrev start : tie.After-two-fit → tie.Start
+start p = p .before .before .before .before .before .before
+
+-- the call's code
+abbrev code : tie.Start → Code
+code b = codeOf (b .args .q) (b .args .k) (b .args .b) (b .args .positions .now)
+
+fitting : (p : tie.After-two-fit) → p .two-fit .result ≡ syndromeFits (code (start p)) (length (start p .args .page .now)) (length (start p .args .s .now))
+fitting p =
+    let a = start p .args in
+    p .two-fit .ensures ∙ ap (λ (n : ℕ). eqb (length (a .page .now)) (n + a .k) && eqb (length (a .s .now)) (a .k)) (p .before .before .data-count .ensures)
+
 -- the number returned is syndrome's
 number : (p : tie.After-page-answer)
-    → let a = p .before .before .before .before .before .args in
-    p .page-answer .result ≡ syndromeAnswer (codeOf (a .q) (a .k) (a .positions .now)) (a .page .now) (length (a .s .now))
+    → let b = start (p .before) in
+    p .page-answer .result ≡ syndromeAnswer (code b) (b .args .page .now) (length (b .args .s .now))
 unfolding syndromeAnswer
 number p =
-    let a = p .before .before .before .before .before .args in
-    number-by (codeOf (a .q) (a .k) (a .positions .now)) (a .page .now) (a .k + a .k) (length (a .s .now)) (a .k) _ (p .before .two-fit .ensures) _
+    let b = start (p .before) in
+    number-by (code b) (b .args .page .now) (pageLength (code b)) (length (b .args .s .now)) (b .args .k) _ (fitting (p .before)) _
     (p .page-answer .ensures)
 
 -- what it works on where it is not refused
 works : (c : tie.Else1)
-    → let a = c .before .before .before .before .before .before .args in
-    ByteCode (codeOf (a .q) (a .k) (a .positions .now)) × SymbolsBelow (a .q) (a .k + a .k) (a .page .now) × (length (a .s .now) ≡ a .k)
+    → let b = start (c .before .before) in
+    ByteCode (code b) × SymbolsBelow (b .args .q) (pageLength (code b)) (b .args .page .now) × (length (b .args .s .now) ≡ b .args .k)
 works c =
     let p = c .before in
-    let a = p .before .before .before .before .before .args in
-    taken (codeOf (a .q) (a .k) (a .positions .now)) (a .page .now) (a .k + a .k) (length (a .s .now)) (a .k) _ (p .before .two-fit .ensures) _
+    let b = start (p .before) in
+    taken (code b) (b .args .page .now) (pageLength (code b)) (length (b .args .s .now)) (b .args .k) _ (fitting (p .before)) _
     (p .page-answer .ensures) (c .if1 .left)
 
 returns : tie.Need-returns
@@ -62,6 +86,7 @@ pub syndrome-spec : {M : Type 1} → statement M
 syndrome-spec =
     tie.close
     (tie.spec
+    data-count-requires
     add-two-fit
     two-fit-requires
     page-answer-requires

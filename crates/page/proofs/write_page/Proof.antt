@@ -1,8 +1,8 @@
 -- `write_page`: the data is copied to the front of the page, its checks are written behind it.
 use borrow.Author.Needs.{needs}
-use mathlib.Core.Path.{sym, _∙_}
+use mathlib.Core.Path.{sym}
 use native.Mathlib.Omega.{arith}
-use lib.ListN.{drop}
+use lib.ListN.{length, drop}
 use lib.Seq.{length-take-le}
 use Rattle.model.specs.Code.{codeWord}
 use Rattle.page.specs.Checks.{front-written}
@@ -14,13 +14,13 @@ slice-relend-prefix-copy-into c = search needs
 
 slice-aggregate-copy-into : tie.Need-slice-aggregate-copy-into
 slice-aggregate-copy-into c =
-    let a = c .before .before .before .before .args in
-    sym (length-take-le (a .code .k) (a .page .now) (omega arith))
+    let b = c .before .before .before .before in
+    sym (length-take-le (length (b .args .«data» .now)) (b .args .page .now) (omega (arith, b .pre .1 .len)))
 
 copy-into-requires : tie.Need-copy-into-requires
 copy-into-requires c κs =
     let b = c .before .before .before .before in
-    length-take-le (b .args .code .k) (b .args .page .now) (omega arith) ∙ sym (b .pre .1 .len)
+    length-take-le (length (b .args .«data» .now)) (b .args .page .now) (omega (arith, b .pre .1 .len))
 
 sub-write-checks : tie.Need-sub-write-checks
 sub-write-checks c = search needs
@@ -42,10 +42,8 @@ unfolding codeWord
 returns c =
     let w = c .before .before in
     let i = w .before .before .before .before in
-    let b = i .before .before .before .before .before in
-    let a = b .args in
-    front-written (a .code .k) (a .«data» .now) (i .copy-into .last .0) (drop (a .code .k) (a .page .now)) _ _
-    (b .pre .1 .len) (i .copy-into .ensures) (w .write-checks .ensures)
+    let a = i .before .before .before .before .before .args in
+    front-written (a .«data» .now) (i .copy-into .last .0) (drop (length (a .«data» .now)) (a .page .now)) _ _ (i .copy-into .ensures) (w .write-checks .ensures)
 
 pub write-page-spec : {M : Type 1} → statement M
 write-page-spec =

@@ -10,29 +10,30 @@ slice-aggregate-differences-differ : tie.Need-slice-aggregate-differences-differ
 slice-aggregate-differences-differ c = search needs
 
 differences-differ-requires : tie.Need-differences-differ-requires
-differences-differ-requires c κs = let s = c .before .before .before in (omega arith, s .pre .2, omega arith, cleared 33)
+differences-differ-requires c κs = (c .before .before .before .before .pre, omega arith, cleared 33)
 
 returns : tie.Need-returns
-returns c = let s = c .before .before .before .before .before in
-    orthogonal-told (s .args .k) (s .args .positions .now) (s .pre .0) (s .pre .2) _ (c .before .differences-differ .ensures)
+returns c = orthogonal-told _ (c .before .before .before .before .before .before .pre) _ (c .before .differences-differ .ensures)
 
 slice-aggregate-differences-differ-2 : tie.Need-slice-aggregate-differences-differ-2
 slice-aggregate-differences-differ-2 c = search needs
 
 differences-differ-requires-2 : tie.Need-differences-differ-requires-2
-differences-differ-requires-2 c κs = let s = c .before .before .before .before in (omega arith, s .pre .2, omega arith, cleared 513)
+differences-differ-requires-2 c κs = (c .before .before .before .before .before .before .pre, omega arith, cleared 513)
 
 returns-2 : tie.Need-returns-2
-returns-2 c = let s = c .before .before .before .before .before .before in orthogonal-told (s .args .k) (s .args .positions .now) (s .pre .0) (s .pre .2) _ (c .before .differences-differ2 .ensures)
+returns-2 c = orthogonal-told _ (c .before .before .before .before .before .before .before .before .pre) _ (c .before .differences-differ2 .ensures)
 
 slice-aggregate-differences-differ-3 : tie.Need-slice-aggregate-differences-differ-3
 slice-aggregate-differences-differ-3 c = search needs
 
 differences-differ-requires-3 : tie.Need-differences-differ-requires-3
-differences-differ-requires-3 c κs = let s = c .before .before .before .before in (omega arith, s .pre .2, omega arith, cleared 2049)
+differences-differ-requires-3 c κs =
+    let s = c .before .before .before .before .before .before in
+    (s .pre, omega (arith, s .pre .sizes .k-high), cleared 2049)
 
 returns-3 : tie.Need-returns-3
-returns-3 c = let s = c .before .before .before .before .before .before in orthogonal-told (s .args .k) (s .args .positions .now) (s .pre .0) (s .pre .2) _ (c .before .differences-differ3 .ensures)
+returns-3 c = orthogonal-told _ (c .before .before .before .before .before .before .before .before .pre) _ (c .before .differences-differ3 .ensures)
 
 pub self-orthogonal-spec : {M : Type 1} → statement M
 self-orthogonal-spec =

@@ -1,11 +1,15 @@
--- `sizes_answer` walks tests 1 to 3: a return names the tests passed on the way to it.
+-- `sizes_answer` walks tests 1, 2, 10 and 3: a return names the tests passed on the way to it.
 use borrow.Author.Needs.{needs}
 use borrow.Author.Tests.{not-true, not-false}
 use mathlib.Core.Path.{sym, _∙_}
+use mathlib.Core.List.{[]}
 use Rattle.model.specs.Calls.{sizeTests}
-use Rattle.theory.specs.Answers.{refused-by, passed-by, nothing-applies}
+use Rattle.theory.specs.Answers.{and-true, within-facts, refused-by, passed-by, nothing-applies}
 use Rattle.table.proofs.sizes_answer.Statement.{statement}
 use Rattle.table.proofs.sizes_answer.Tie as tie
+
+cast-within : tie.Need-cast-within
+cast-within c = search needs
 
 within-requires : tie.Need-within-requires
 within-requires c κs = search needs
@@ -23,8 +27,8 @@ returns-2 c =
     let one = c .before .before in
     sym (passed-by 1 _ _ (sym (one .before .within .ensures) ∙ not-false _ (one .if1 .left)) ∙ refused-by 2 _ _ (sym (c .before .within2 .ensures) ∙ not-true _ (c .if2 .taken)))
 
-within-requires-3 : tie.Need-within-requires-3
-within-requires-3 c κs = search needs
+branches-fit-requires : tie.Need-branches-fit-requires
+branches-fit-requires c κs = within-facts 1 4096 _ (sym (c .before .within2 .ensures) ∙ not-false _ (c .if2 .left)) .1
 
 returns-3 : tie.Need-returns-3
 unfolding sizeTests
@@ -33,17 +37,47 @@ returns-3 c =
     let one = two .before .before in
     sym (passed-by 1 _ _ (sym (one .before .within .ensures) ∙ not-false _ (one .if1 .left))
     ∙ passed-by 2 _ _ (sym (two .before .within2 .ensures) ∙ not-false _ (two .if2 .left))
-    ∙ refused-by 3 _ _ (sym (c .before .within3 .ensures) ∙ not-true _ (c .if3 .taken)))
+    ∙ refused-by 10 _ _ (sym (c .before .branches-fit .ensures []) ∙ not-true _ (c .if3 .taken)))
+
+runs-fit-requires : tie.Need-runs-fit-requires
+runs-fit-requires c κs =
+    let b = and-true _ _ (sym (c .before .branches-fit .ensures []) ∙ not-false _ (c .if3 .left)) in
+    within-facts 1 8 _ (b .0) .0
 
 returns-4 : tie.Need-returns-4
 unfolding sizeTests
 returns-4 c =
-    let two = c .before .before in
+    let ten = c .before .before in
+    let two = ten .before .before in
     let one = two .before .before in
     sym (passed-by 1 _ _ (sym (one .before .within .ensures) ∙ not-false _ (one .if1 .left))
     ∙ passed-by 2 _ _ (sym (two .before .within2 .ensures) ∙ not-false _ (two .if2 .left))
-    ∙ passed-by 3 _ _ (sym (c .before .within3 .ensures) ∙ not-false _ (c .if3 .left))
+    ∙ passed-by 10 _ _ (sym (ten .before .branches-fit .ensures []) ∙ not-false _ (ten .if3 .left))
+    ∙ refused-by 3 _ _ (sym (c .before .runs-fit .ensures) ∙ not-true _ (c .if4 .taken)))
+
+returns-5 : tie.Need-returns-5
+unfolding sizeTests
+returns-5 c =
+    let ten = c .before .before in
+    let two = ten .before .before in
+    let one = two .before .before in
+    sym (passed-by 1 _ _ (sym (one .before .within .ensures) ∙ not-false _ (one .if1 .left))
+    ∙ passed-by 2 _ _ (sym (two .before .within2 .ensures) ∙ not-false _ (two .if2 .left))
+    ∙ passed-by 10 _ _ (sym (ten .before .branches-fit .ensures []) ∙ not-false _ (ten .if3 .left))
+    ∙ passed-by 3 _ _ (sym (c .before .runs-fit .ensures) ∙ not-false _ (c .if4 .left))
     ∙ nothing-applies)
 
 pub sizes-answer-spec : {M : Type 1} → statement M
-sizes-answer-spec = tie.close (tie.spec within-requires returns within-requires-2 returns-2 within-requires-3 returns-3 returns-4)
+sizes-answer-spec =
+    tie.close
+    (tie.spec
+    cast-within
+    within-requires
+    returns
+    within-requires-2
+    returns-2
+    branches-fit-requires
+    returns-3
+    runs-fit-requires
+    returns-4
+    returns-5)

@@ -1,0 +1,35 @@
+-- `runs_fit`: the table is b runs of the length that division by b gives, and this length is within its limits.
+use borrow.Author.Needs.{needs}
+use borrow.Author.Tests.{eq-eqb, ne-eqb}
+use mathlib.Core.Path.{sym, subst}
+use Prim.Native.Nat.{ℕ, _*_, _≤_}
+use native.Mathlib.Nat.{mul-div-le}
+use native.Mathlib.Omega.{arith}
+use lib.ListN.{length}
+use Rattle.table.proofs.runs_fit.Statement.{statement}
+use Rattle.table.proofs.runs_fit.Tie as tie
+
+checks-each-requires : tie.Need-checks-each-requires
+checks-each-requires c κs = search needs
+
+mul-if1 : tie.Need-mul-if1
+mul-if1 c =
+    let a = c .before .before .before .args in
+    let n = length (a .positions .now) in
+    omega (arith, subst (λ (each : ℕ). a .code .b * each ≤ n) (sym (c .before .checks-each .ensures)) (mul-div-le n (a .code .b)))
+
+returns : tie.Need-returns
+returns c =
+    let e = c .before .before .checks-each .ensures in
+    rw (← e, ne-eqb _ _ (c .if1 .taken))
+
+within-requires : tie.Need-within-requires
+within-requires c κs = search needs
+
+returns-2 : tie.Need-returns-2
+returns-2 c =
+    let e = c .before .before .before .checks-each .ensures in
+    rw (← e, eq-eqb _ _ (c .before .if1 .left)) (c .within .ensures)
+
+pub runs-fit-spec : {M : Type 1} → statement M
+runs-fit-spec = tie.close (tie.spec checks-each-requires mul-if1 returns within-requires returns-2)
