@@ -1,4 +1,4 @@
--- The positions that are read of a table: none where there are too many, which is a bad J as none is.
+-- The positions that are read of a table: none where there are more than 8 runs of 32, which are refused as none are.
 use mathlib.Core.Path.{_≡_, refl, ap, sym, _∙_}
 use mathlib.Core.Logic.{_≢_}
 use mathlib.Core.Bool.{Bool, true, false}
@@ -17,24 +17,24 @@ use Rattle.theory.specs.Distance.{length-tabulate}
 use Rattle.theory.specs.Turns.{tabulate-snoc}
 use Rattle.model.specs.Bytes.{positionAt, positionsOf}
 
--- the positions, none where there are more than 32
+-- the positions, none where there are more than 256
 unfoldable pub kept : List ℕ → List ℕ
-kept ps = choose (leb (length ps) 32) ps []
+kept ps = choose (leb (length ps) 256) ps []
 
 pub kept-odd : (table : List ℕ) → length table % 2 ≢ 0 → [] ≡ kept (positionsOf table)
 unfolding kept positionsOf
 kept-odd t n = rw (eqb-no (length t % 2) 0 n) refl
 
 module _ (table : List ℕ) (even : length table % 2 ≡ 0) where
-  kept-even : kept (positionsOf table) ≡ choose (leb (length table / 2) 32) (tabulate (length table / 2) (positionAt table)) []
+  kept-even : kept (positionsOf table) ≡ choose (leb (length table / 2) 256) (tabulate (length table / 2) (positionAt table)) []
   unfolding kept positionsOf
   kept-even = rw (eqb-yes (length table % 2) 0 even, length-tabulate (length table / 2) (positionAt table)) refl
 
-  pub kept-long : 64 < length table → [] ≡ kept (positionsOf table)
-  kept-long h = sym (kept-even ∙ rw (lt-leb (length table / 2) 32 (omega arith)) refl)
+  pub kept-long : 512 < length table → [] ≡ kept (positionsOf table)
+  kept-long h = sym (kept-even ∙ rw (lt-leb (length table / 2) 256 (omega arith)) refl)
 
-  pub kept-all : length table ≤ 64 → tabulate (length table / 2) (positionAt table) ≡ kept (positionsOf table)
-  kept-all h = sym (kept-even ∙ rw (le-leb (length table / 2) 32 (omega arith)) refl)
+  pub kept-all : length table ≤ 512 → tabulate (length table / 2) (positionAt table) ≡ kept (positionsOf table)
+  kept-all h = sym (kept-even ∙ rw (le-leb (length table / 2) 256 (omega arith)) refl)
 
 -- one byte more: the second byte of a position, with the byte before it, gives the position; a first byte alters none that is complete
 pub byte-turn : (table positions : List ℕ) (i last : ℕ) → i / 2 < length positions → take (i / 2) positions ≡ tabulate (i / 2) (positionAt table)
@@ -64,7 +64,7 @@ byte-turn table positions i last h e before =
 -- a call that is done has read all positions
 all-kept : (ps : List ℕ) → 1 ≤ length (kept ps) → kept ps ≡ ps
 unfolding kept
-all-kept ps = go (leb (length ps) 32)
+all-kept ps = go (leb (length ps) 256)
   where
     go : (b : Bool) → 1 ≤ length (choose b ps []) → choose b ps [] ≡ ps
     go true h = refl
@@ -74,13 +74,13 @@ pub all-read : (xs ps : List ℕ) → xs ≡ kept ps → 1 ≤ length xs → xs 
 all-read xs ps e h = e ∙ all-kept ps (omega (arith, ap length e))
 
 -- what is the same for no position and for too many is the same for the positions that are read
-kept-same : {A : Type 0} (f : List ℕ → A) (ps : List ℕ) → (32 < length ps → f [] ≡ f ps) → f (kept ps) ≡ f ps
+kept-same : {A : Type 0} (f : List ℕ → A) (ps : List ℕ) → (256 < length ps → f [] ≡ f ps) → f (kept ps) ≡ f ps
 unfolding kept
-kept-same f ps h = go (leb (length ps) 32) refl
+kept-same f ps h = go (leb (length ps) 256) refl
   where
-    go : (b : Bool) → leb (length ps) 32 ≡ b → f (choose b ps []) ≡ f ps
+    go : (b : Bool) → leb (length ps) 256 ≡ b → f (choose b ps []) ≡ f ps
     go true e = refl
-    go false e = h (leb-false (length ps) 32 e)
+    go false e = h (leb-false (length ps) 256 e)
 
-pub read-same : {A : Type 0} (f : List ℕ → A) (xs ps : List ℕ) → xs ≡ kept ps → (32 < length ps → f [] ≡ f ps) → f xs ≡ f ps
+pub read-same : {A : Type 0} (f : List ℕ → A) (xs ps : List ℕ) → xs ≡ kept ps → (256 < length ps → f [] ≡ f ps) → f xs ≡ f ps
 read-same f xs ps e h = ap f e ∙ kept-same f ps h

@@ -2,105 +2,132 @@
 use mathlib.Core.Path.{_≡_, refl, sym, _∙_, subst}
 use mathlib.Core.Logic.{_≢_}
 use mathlib.Core.Bool.{Bool, true, false, not, _&&_}
-use mathlib.Core.List.{List, [], _++_}
-use Prim.Native.Nat.{ℕ, _*_}
+use mathlib.Core.List.{List, []}
+use Prim.Native.Nat.{ℕ, _*_, _≤_, _<_}
+use native.Mathlib.Nat.{div-le-self, mul-le-mul-left}
 use native.Mathlib.Omega.{arith}
 use lib.Dec.{eqb}
 use lib.ListN.{length}
 use Rattle.model.specs.Bytes.{marginBytes, bytesOf, cDecodeOutcome}
-use Rattle.model.specs.Calls.{Test, firstThatApplies, within, sizeTests, tableTests, pageTests, tableAnswer, encodeAnswer, syndromeAnswer, decodeFits, decodeAnswer, outcome, encodeOutcome, syndromeOutcome, Decoded}
-use Rattle.model.specs.Code.{codeOf, codeWord, syndrome}
+use Rattle.model.specs.Calls.{firstThatApplies, within, branchesFit, runsFit, sizeTests, tableTests, pageTests, tableAnswer, encodeAnswer, syndromeAnswer, decodeFits, decodeAnswer, outcome, encodeOutcome, syndromeOutcome, Decoded}
+use Rattle.model.specs.Code.{Code, codeOf, codeWord, syndrome}
 use Rattle.model.specs.Decoder.{State, decodedState, decodedCounts, marginsOf}
 use Rattle.model.specs.Demand.{Encodes, DecodeFalls, DecodeRecovers}
+use Rattle.model.specs.Limits.{SizeLimits}
 use Rattle.model.specs.Symbols.{choose}
-use Rattle.theory.specs.Answers.{within-below, within-above, page-taken, decode-taken}
+use Rattle.theory.specs.Answers.{refused-first, sizes-taken, page-taken, decode-taken}
 use Rattle.theory.specs.Outcomes.{left-as-lent, outcome-number}
 use Rattle.theory.specs.Statements.{decode-falls}
 use Rattle.octets.specs.Positions.{kept, all-read, read-same}
 
 -- ---- too many positions are refused as none are
 
--- the number where J is bad: q and k are tested before it
-abbrev badJ : ℕ → ℕ → ℕ
-badJ q k = choose (not (within 3 256 q)) 1 (choose (not (within 1 4096 k)) 2 3)
+-- a code within its sizes has from 1 position to 8 runs of 32
+sized-length : (c : Code) → SizeLimits c → (1 ≤ length (c .positions)) × (length (c .positions) ≤ 256)
+sized-length c s = (
+  omega (arith, s .J-low, div-le-self (length (c .positions)) (c .b)),
+  omega (arith, s .runs, mul-le-mul-left (c .b) (s .J-high), s .b-high),
+)
 
-badJ-number : (q k : ℕ) → badJ q k ≢ 0
-badJ-number q k = go (not (within 3 256 q)) (not (within 1 4096 k))
-  where
-    go : (a b : Bool) → choose {A = ℕ} a 1 (choose b 2 3) ≢ 0
-    go true b e = omega arith
-    go false true e = omega arith
-    go false false e = omega arith
+module _ (q k b : ℕ) where
+  -- the number of tests 1, 2, 10 and 3
+  abbrev sizesNumber : List ℕ → ℕ
+  sizesNumber ps = firstThatApplies (sizeTests (codeOf q k b ps))
 
--- J is bad
-abbrev Bad : List ℕ → Type 0
-Bad ps = within 1 32 (length ps) ≡ false
+  none-unsized : sizesNumber [] ≢ 0
+  none-unsized z = absurd (omega (arith, sized-length (codeOf q k b []) (sizes-taken (codeOf q k b []) z) .0))
 
-bad-J : (q k : ℕ) (ps : List ℕ) (more : List Test) → Bad ps → firstThatApplies (sizeTests q k (length ps) ++ more) ≡ badJ q k
-unfolding sizeTests firstThatApplies
-bad-J q k ps more e = rw e refl
+  many-unsized : (ps : List ℕ) → 256 < length ps → sizesNumber ps ≢ 0
+  many-unsized ps h z = absurd (omega (arith, sized-length (codeOf q k b ps) (sizes-taken (codeOf q k b ps) z) .1))
+
+  -- only test 3, the last of them, looks at the positions
+  unsized-same : (ps rs : List ℕ) → sizesNumber ps ≢ 0 → sizesNumber rs ≢ 0 → sizesNumber ps ≡ sizesNumber rs
+  unfolding sizeTests firstThatApplies
+  unsized-same ps rs = go (within 3 256 q) (within 1 4096 k) (branchesFit (codeOf q k b ps)) (runsFit (codeOf q k b ps)) (runsFit (codeOf q k b rs))
+    where
+      number : Bool → Bool → Bool → Bool → ℕ
+      number w x y z = choose (not w) 1 (choose (not x) 2 (choose (not y) 10 (choose (not z) 3 0)))
+
+      go : (w x y z z′ : Bool) → number w x y z ≢ 0 → number w x y z′ ≢ 0 → number w x y z ≡ number w x y z′
+      go false x y z z′ m n = refl
+      go true false y z z′ m n = refl
+      go true true false z z′ m n = refl
+      go true true true false false m n = refl
+      go true true true false true m n = absurd (n refl)
+      go true true true true z′ m n = absurd (m refl)
 
 -- with the positions that are read, xs, a call does what it does with those of the table, ps
-module _ (q k : ℕ) (xs ps : List ℕ) (e : xs ≡ kept ps) where
-  number-read : (number : List ℕ → ℕ) → ((l : List ℕ) → Bad l → number l ≡ badJ q k) → number xs ≡ number ps
-  number-read number bad = read-same number xs ps e (λ h. bad [] (within-below 1 32 0 (omega arith)) ∙ sym (bad ps (within-above 1 32 (length ps) h)))
+module _ (q k b : ℕ) (xs ps : List ℕ) (e : xs ≡ kept ps) where
+  -- a call whose number is that of the sizes where they are refused
+  abbrev BySizes : (List ℕ → ℕ) → Type 0
+  BySizes number = (l : List ℕ) → sizesNumber q k b l ≢ 0 → number l ≡ sizesNumber q k b l
 
-  outcome-read : {A : Type 0} (number : List ℕ → ℕ) (done : List ℕ → A) (lent : A) → ((l : List ℕ) → Bad l → number l ≡ badJ q k)
+  -- too many positions and none get one number
+  none-number : (number : List ℕ → ℕ) → BySizes number → (l : List ℕ) → sizesNumber q k b l ≢ 0 → sizesNumber q k b [] ≡ number l
+  none-number number sizes l u = unsized-same q k b [] l (none-unsized q k b) u ∙ sym (sizes l u)
+
+  number-read : (number : List ℕ → ℕ) → BySizes number → number xs ≡ number ps
+  number-read number sizes = read-same number xs ps e (λ h.
+      sym (none-number number sizes [] (none-unsized q k b)) ∙ none-number number sizes ps (many-unsized q k b ps h))
+
+  outcome-read : {A : Type 0} (number : List ℕ → ℕ) (done : List ℕ → A) (lent : A) → BySizes number
       → outcome (number xs) (done xs) lent ≡ outcome (number ps) (done ps) lent
-  outcome-read number done lent bad =
-      let same : (l : List ℕ) → Bad l → record { number = badJ q k; left = lent } ≡ outcome (number l) (done l) lent =
-      (λ l b. left-as-lent (number l) (done l) lent (badJ q k) (sym (bad l b)) (badJ-number q k)) in
-      read-same (λ l. outcome (number l) (done l) lent) xs ps e
-      (λ h. sym (same [] (within-below 1 32 0 (omega arith))) ∙ same ps (within-above 1 32 (length ps) h))
+  outcome-read number done lent sizes =
+      let same : (l : List ℕ) → sizesNumber q k b l ≢ 0 → record { number = sizesNumber q k b []; left = lent } ≡ outcome (number l) (done l) lent =
+      (λ l u. left-as-lent (number l) (done l) lent (sizesNumber q k b []) (none-number number sizes l u) (none-unsized q k b)) in
+      read-same (λ l. outcome (number l) (done l) lent) xs ps e (λ h. sym (same [] (none-unsized q k b)) ∙ same ps (many-unsized q k b ps h))
 
-  pub table-read : tableAnswer (codeOf q k xs) ≡ tableAnswer (codeOf q k ps)
+  pub table-read : tableAnswer (codeOf q k b xs) ≡ tableAnswer (codeOf q k b ps)
   unfolding tableAnswer tableTests
-  table-read = number-read (λ l. tableAnswer (codeOf q k l)) (λ l b. bad-J q k l _ b)
+  table-read = number-read (λ l. tableAnswer (codeOf q k b l)) (λ l u. refused-first (sizeTests (codeOf q k b l)) _ u)
 
-  pub encode-read : (u page : List ℕ) → encodeOutcome (codeOf q k xs) u page ≡ encodeOutcome (codeOf q k ps) u page
+  pub encode-read : (u page : List ℕ) → encodeOutcome (codeOf q k b xs) u page ≡ encodeOutcome (codeOf q k b ps) u page
   unfolding encodeOutcome encodeAnswer pageTests tableTests sizeTests
   encode-read u page =
-      outcome-read (λ l. encodeAnswer (codeOf q k l) u (length page)) (λ l. codeWord (codeOf q k l) u) page (λ l b. bad-J q k l _ b)
+      outcome-read (λ l. encodeAnswer (codeOf q k b l) u (length page)) (λ l. codeWord (codeOf q k b l) u) page (λ l u. refused-first (sizeTests (codeOf q k b l)) _ u)
 
-  pub syndrome-read : (page s : List ℕ) → syndromeOutcome (codeOf q k xs) page s ≡ syndromeOutcome (codeOf q k ps) page s
+  pub syndrome-read : (page s : List ℕ) → syndromeOutcome (codeOf q k b xs) page s ≡ syndromeOutcome (codeOf q k b ps) page s
   unfolding syndromeOutcome syndromeAnswer pageTests tableTests sizeTests
   syndrome-read page s =
-      outcome-read (λ l. syndromeAnswer (codeOf q k l) page (length s)) (λ l. syndrome (codeOf q k l) page) s (λ l b. bad-J q k l _ b)
+      outcome-read (λ l. syndromeAnswer (codeOf q k b l) page (length s)) (λ l. syndrome (codeOf q k b l) page) s (λ l u. refused-first (sizeTests (codeOf q k b l)) _ u)
 
   pub decode-read : (page ts : List ℕ) (lent : State) (margins counts : List ℕ)
-      → cDecodeOutcome (codeOf q k xs) page ts lent margins counts ≡ cDecodeOutcome (codeOf q k ps) page ts lent margins counts
+      → cDecodeOutcome (codeOf q k b xs) page ts lent margins counts ≡ cDecodeOutcome (codeOf q k b ps) page ts lent margins counts
   unfolding cDecodeOutcome decodeAnswer pageTests tableTests sizeTests
   decode-read page ts lent margins counts =
-      outcome-read (λ l. decodeAnswer (codeOf q k l) ((eqb (length margins) (4 * k) && eqb (length counts) 16) && decodeFits (codeOf q k l) page lent) page ts)
+      outcome-read (λ l. decodeAnswer (codeOf q k b l) ((eqb (length margins) (4 * (b * k)) && eqb (length counts) 16) && decodeFits (codeOf q k b l) page lent) page ts)
       (λ l.
-      let st = decodedState (codeOf q k l) ts page in
-      record { state = st; margins = marginBytes (marginsOf (codeOf q k l) st); counts = bytesOf (decodedCounts (codeOf q k l) ts page) })
-      (record { state = lent; margins = margins; counts = counts }) (λ l b. bad-J q k l _ b)
+      let st = decodedState (codeOf q k b l) ts page in
+      record { state = st; margins = marginBytes (marginsOf (codeOf q k b l) st); counts = bytesOf (decodedCounts (codeOf q k b l) ts page) })
+      (record { state = lent; margins = margins; counts = counts }) (λ l u. refused-first (sizeTests (codeOf q k b l)) _ u)
 
   -- a call that is done has read all positions
-  pub encodes-read : (u sent : List ℕ) → Encodes (codeOf q k xs) u sent → Encodes (codeOf q k ps) u sent
+  sized-read : SizeLimits (codeOf q k b xs) → xs ≡ ps
+  sized-read s = all-read xs ps e (sized-length (codeOf q k b xs) s .0)
+
+  pub encodes-read : (u sent : List ℕ) → Encodes (codeOf q k b xs) u sent → Encodes (codeOf q k b ps) u sent
   unfolding encodeAnswer
   encodes-read u sent n =
-      subst (λ (l : List ℕ). Encodes (codeOf q k l) u sent) (all-read xs ps e (page-taken (codeOf q k xs) _ u (n .0) .limits .table .J-low)) n
+      subst (λ (l : List ℕ). Encodes (codeOf q k b l) u sent) (sized-read (page-taken (codeOf q k b xs) _ u (n .0) .limits .table .sizes)) n
 
-  pub decoded-read : (others : Bool) (page ts : List ℕ) (lent : State) → decodeAnswer (codeOf q k xs) (others && decodeFits (codeOf q k xs) page lent) page ts ≡ 0 → xs ≡ ps
-  decoded-read others page ts lent z = all-read xs ps e (decode-taken (codeOf q k xs) others page ts lent z .opens .usable .table .J-low)
+  pub decoded-read : (others : Bool) (page ts : List ℕ) (lent : State) → decodeAnswer (codeOf q k b xs) (others && decodeFits (codeOf q k b xs) page lent) page ts ≡ 0 → xs ≡ ps
+  decoded-read others page ts lent z = sized-read (decode-taken (codeOf q k b xs) others page ts lent z .opens .usable .table .sizes)
 
   -- decode, whole: what holds with the positions that are read holds with those of the table
   pub decode-whole : (page ts : List ℕ) (lent : State) (margins counts : List ℕ) (r : ℕ) (x : Decoded (List ℕ) (List ℕ))
-      → record { number = r; left = x } ≡ cDecodeOutcome (codeOf q k xs) page ts lent margins counts
-      → (r ≡ 0 → DecodeRecovers (codeOf q k xs) ts page (x .state .result))
-      → (record { number = r; left = x } ≡ cDecodeOutcome (codeOf q k ps) page ts lent margins counts)
-      × (r ≡ 0 → DecodeFalls (codeOf q k ps) ts page (decodedCounts (codeOf q k ps) ts page))
-      × (r ≡ 0 → DecodeRecovers (codeOf q k ps) ts page (x .state .result))
+      → record { number = r; left = x } ≡ cDecodeOutcome (codeOf q k b xs) page ts lent margins counts
+      → (r ≡ 0 → DecodeRecovers (codeOf q k b xs) ts page (x .state .result))
+      → (record { number = r; left = x } ≡ cDecodeOutcome (codeOf q k b ps) page ts lent margins counts)
+      × (r ≡ 0 → DecodeFalls (codeOf q k b ps) ts page (decodedCounts (codeOf q k b ps) ts page))
+      × (r ≡ 0 → DecodeRecovers (codeOf q k b ps) ts page (x .state .result))
   unfolding cDecodeOutcome
   decode-whole page ts lent margins counts r x o f =
-      let others : Bool = eqb (length margins) (4 * k) && eqb (length counts) 16 in
-      let zero : r ≡ 0 → decodeAnswer (codeOf q k xs) (others && decodeFits (codeOf q k xs) page lent) page ts ≡ 0 =
+      let others : Bool = eqb (length margins) (4 * (b * k)) && eqb (length counts) 16 in
+      let zero : r ≡ 0 → decodeAnswer (codeOf q k b xs) (others && decodeFits (codeOf q k b xs) page lent) page ts ≡ 0 =
       (λ z. sym (outcome-number _ _ _ r x o) ∙ z) in
       let same : r ≡ 0 → xs ≡ ps = (λ z. decoded-read others page ts lent (zero z)) in (
         o ∙ decode-read page ts lent margins counts,
-        (λ z. decode-falls (codeOf q k ps) others page ts lent
-            (subst (λ (l : List ℕ). decodeAnswer (codeOf q k l) (others && decodeFits (codeOf q k l) page lent) page ts ≡ 0) (same z) (zero z))),
-        (λ z. subst (λ (l : List ℕ). DecodeRecovers (codeOf q k l) ts page (x .state .result)) (same z) (f z)),
+        (λ z. decode-falls (codeOf q k b ps) others page ts lent
+            (subst (λ (l : List ℕ). decodeAnswer (codeOf q k b l) (others && decodeFits (codeOf q k b l) page lent) page ts ≡ 0) (same z) (zero z))),
+        (λ z. subst (λ (l : List ℕ). DecodeRecovers (codeOf q k b l) ts page (x .state .result)) (same z) (f z)),
       )

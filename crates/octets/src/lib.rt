@@ -23,19 +23,19 @@ fn position(low: u8, high: u8) -> u16
     (low as u16) + 256 * (high as u16)
 }
 
-// Reads the positions of a table, and hands back how many: none where the length is odd or there are more than 32.
+// Reads the positions of a table, and hands back how many: none where the length is odd or there are more than 256.
 // Each byte stores a number made with the byte before it, and the second byte of a position stores the one that stays:
 // a loop over pairs of bytes would be compiled into a call of memcpy, which the archive is not to need.
 pub fn read_positions(table: &[u8], positions: &mut [u16]) -> usize
-    requires { ⌜ length (now positions) ≡ 32 ⌝ }
-    ensures few { λ n. ⌜ n ≤ 32 ⌝ }
+    requires { ⌜ length (now positions) ≡ 256 ⌝ }
+    ensures few { λ n. ⌜ n ≤ 256 ⌝ }
     ensures read { λ n. ⌜ take n (now (positions .exit)) ≡ kept (positionsOf (now (table .entry))) ⌝ }
 {
     let len = table.len();
     if len % 2 != 0 {
         return 0;
     }
-    if 64 < len {
+    if 512 < len {
         return 0;
     }
     let mut last: u8 = 0;

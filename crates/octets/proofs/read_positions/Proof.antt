@@ -12,7 +12,7 @@ use Rattle.octets.proofs.read_positions.Tie as tie
 
 abbrev Inv-loop : tie.InvT-loop
 Inv-loop table positions₀ len last₀ i₀ positions last i =
-    (i ≤ len) × (length positions ≡ 32) × (take (i / 2) positions ≡ tabulate (i / 2) (positionAt table)) × (0 < i → last ≡ getD table (i - 1) 0)
+    (i ≤ len) × (length positions ≡ 256) × (take (i / 2) positions ≡ tabulate (i / 2) (positionAt table)) × (0 < i → last ≡ getD table (i - 1) 0)
 
 abbrev μ-loop : tie.MeasureT-loop
 μ-loop table positions₀ len last₀ i₀ positions last i = len - i
