@@ -46,7 +46,7 @@ def singer(p):
             low, mid, high = power
             # x^3 = a x^2 + b x + c
             power = (high * c % p, (low + high * b) % p, (mid + high * a) % p)
-        if len(positions) == p + 1 and ref.self_orthogonal(k, positions):
+        if len(positions) == p + 1 and ref.self_orthogonal(k, [positions]):
             return positions
 
 

@@ -49,7 +49,7 @@ def random_places(random, k, count):
 
 def other_length(k, at, length):
     """The lengths of decode's answers, but for one of them."""
-    lengths = list(ref.decode_lengths(k))
+    lengths = list(ref.decode_lengths(k, 1))
     lengths[at] = length
     return tuple(lengths)
 
@@ -60,52 +60,52 @@ def other_length(k, at, length):
 def odd_tables(pages, random):
     odd = ref.CODE_A[:7]
     for table in (b"\0", odd, ref.CODE_A + b"\7", ref.table_of(range(31)) + b"\37", ref.table_of(range(32)) + b"\40"):
-        pages.check_table(256, 13, table, expect=3)
-    pages.check_table(2, 13, odd, expect=1)
-    pages.check_table(256, 0, odd, expect=2)
-    pages.check_table(256, 4097, odd, expect=2)
-    pages.check_table(256, 13, b"\6\0\4\0\1", expect=3)
-    pages.check_table(256, 13, b"\0\0\1\0\2\0\7", expect=3)
-    pages.encode(5, 13, odd, [0] * 13, expect=3)
-    pages.encode(5, 13, odd, [0] * 12, expect=3)
-    pages.syndrome(5, 13, odd, [0] * 26, expect=3)
-    pages.syndrome(5, 13, odd, [5] * 26, expect=3)
-    pages.decode(5, 13, odd, [0] * 26, [0], expect=3)
-    pages.decode(5, 13, odd, [0] * 26, [], expect=3)
-    pages.decode(5, 13, odd, [0] * 26, [33], expect=3)
+        pages.check_table(256, 13, 1, table, expect=3)
+    pages.check_table(2, 13, 1, odd, expect=1)
+    pages.check_table(256, 0, 1, odd, expect=2)
+    pages.check_table(256, 4097, 1, odd, expect=2)
+    pages.check_table(256, 13, 1, b"\6\0\4\0\1", expect=3)
+    pages.check_table(256, 13, 1, b"\0\0\1\0\2\0\7", expect=3)
+    pages.encode(5, 13, 1, odd, [0] * 13, expect=3)
+    pages.encode(5, 13, 1, odd, [0] * 12, expect=3)
+    pages.syndrome(5, 13, 1, odd, [0] * 26, expect=3)
+    pages.syndrome(5, 13, 1, odd, [5] * 26, expect=3)
+    pages.decode(5, 13, 1, odd, [0] * 26, [0], expect=3)
+    pages.decode(5, 13, 1, odd, [0] * 26, [], expect=3)
+    pages.decode(5, 13, 1, odd, [0] * 26, [33], expect=3)
 
 
 @group("case 11: the limits of q")
 def case_11(pages, random):
     for q, number in ((2, 1), (3, 0), (256, 0), (257, 1)):
-        pages.every_call(q, 13, ref.CODE_A, expect=number)
+        pages.every_call(q, 13, 1, ref.CODE_A, expect=number)
 
 
 @group("case 12: the limits of a symbol")
 def case_12(pages, random):
     for place in (0, 12):
         for symbol, number in ((4, 0), (5, 7)):
-            pages.encode(5, 13, ref.CODE_A, ref.symbols(13, {place: symbol}), expect=number)
-    pages.encode(5, 13, ref.CODE_A, ref.symbols(12, {3: 5}), expect=6)
+            pages.encode(5, 13, 1, ref.CODE_A, ref.symbols(13, {place: symbol}), expect=number)
+    pages.encode(5, 13, 1, ref.CODE_A, ref.symbols(12, {3: 5}), expect=6)
     for place in (0, 25):
         for symbol, number in ((4, 0), (5, 7)):
             page = ref.symbols(26, {place: symbol})
-            pages.syndrome(5, 13, ref.CODE_A, page, expect=number)
-            pages.decode(5, 13, ref.CODE_A, page, [0, 0], expect=number)
-    pages.syndrome(5, 13, ref.CODE_A, ref.symbols(25, {3: 5}), expect=6)
-    pages.decode(5, 13, ref.CODE_A, ref.symbols(25, {3: 5}), [0, 0], expect=6)
+            pages.syndrome(5, 13, 1, ref.CODE_A, page, expect=number)
+            pages.decode(5, 13, 1, ref.CODE_A, page, [0, 0], expect=number)
+    pages.syndrome(5, 13, 1, ref.CODE_A, ref.symbols(25, {3: 5}), expect=6)
+    pages.decode(5, 13, 1, ref.CODE_A, ref.symbols(25, {3: 5}), [0, 0], expect=6)
 
 
 @group("case 13: the limits of thresholds")
 def case_13(pages, random):
     page = ref.page_a({3: 2})
     for count, number in ((64, 0), (65, 8)):
-        pages.decode(5, 13, ref.CODE_A, page, [0] * count, expect=number)
-        pages.decode(5, 13, ref.CODE_A, page, [32] * count, expect=number)
+        pages.decode(5, 13, 1, ref.CODE_A, page, [0] * count, expect=number)
+        pages.decode(5, 13, 1, ref.CODE_A, page, [32] * count, expect=number)
     for threshold, number in ((32, 0), (33, 9)):
-        pages.decode(5, 13, ref.CODE_A, page, [threshold], expect=number)
-        pages.decode(5, 13, ref.CODE_A, page, [0, threshold, 0], expect=number)
-    pages.decode(5, 13, ref.CODE_A, ref.page_a({3: 5}), [], expect=7)
+        pages.decode(5, 13, 1, ref.CODE_A, page, [threshold], expect=number)
+        pages.decode(5, 13, 1, ref.CODE_A, page, [0, threshold, 0], expect=number)
+    pages.decode(5, 13, 1, ref.CODE_A, ref.page_a({3: 5}), [], expect=7)
 
 
 @group("case 14: votes")
@@ -113,7 +113,7 @@ def case_14(pages, random):
     """Symbol 0 of code A has the checks 0, 1, 4, 6, and its d is 0 at first. Received data 0 and checks -s give S = s."""
     def vote(q, s, threshold, changes):
         checks = {i: -value % q for i, value in zip((0, 1, 4, 6), s)}
-        got = pages.decode(q, 13, ref.CODE_A, ref.page_a({}, checks), [threshold], expect=0)
+        got = pages.decode(q, 13, 1, ref.CODE_A, ref.page_a({}, checks), [threshold], expect=0)
         assert got.counts.changes == changes
 
     for threshold in range(33):
@@ -130,16 +130,16 @@ def tables_accepted(pages, random):
     for j in range(1, 33):
         tight = min(k for k, p in SINGER.items() if p + 1 >= j)
         for k in (tight, random.pick((4096, 4095, 3783, 2500)))[:1 + (j % 12 == 8)]:
-            pages.check_table(random.pick(ALPHABETS), k, ref.table_of(positions_for(random, k, j)), expect=0)
+            pages.check_table(random.pick(ALPHABETS), k, 1, ref.table_of(positions_for(random, k, j)), expect=0)
     for k, positions in ((1, [0]), (2, [0]), (2, [1]), (3, [0, 1]), (3, [1, 2]), (4096, [0]), (4096, [4095]),
                          (4096, [0, 4095]), (4096, [0, 2047]), (4096, [1, 2050]), (7, [0, 1, 3]), (7, [3, 5, 6])):
-        pages.check_table(256, k, ref.table_of(positions), expect=0)
+        pages.check_table(256, k, 1, ref.table_of(positions), expect=0)
 
 
 @group("tables refused")
 def tables_refused(pages, random):
     def refused(k, positions, number):
-        pages.check_table(256, k, ref.table_of(positions), expect=number)
+        pages.check_table(256, k, 1, ref.table_of(positions), expect=number)
 
     # J, then positions
     refused(13, [], 3)
@@ -182,11 +182,11 @@ def encode(pages, random):
                     (16, 31, 6), (255, 57, 8), (17, 100, 5), (128, 133, 12), (251, 256, 8),
                     (7, 257, 6), (256, 307, 18), (127, 512, 9), (100, 993, 32), (251, 1021, 12), (256, 2000, 20),
                     (3, 4095, 10), (256, 4096, 10), (251, 4096, 32)):
-        pages.encode(q, k, ref.table_of(positions_for(random, k, j)), random.symbols(q, k), expect=0)
+        pages.encode(q, k, 1, ref.table_of(positions_for(random, k, j)), random.symbols(q, k), expect=0)
     # The largest sums, and none.
     for q, k, j in ((3, 993, 32), (129, 993, 32), (255, 993, 32), (256, 993, 32)):
-        pages.encode(q, k, ref.table_of(positions_for(random, k, j)), [q - 1] * k, expect=0)
-    pages.encode(256, 13, ref.CODE_A, [0] * 13, expect=0)
+        pages.encode(q, k, 1, ref.table_of(positions_for(random, k, j)), [q - 1] * k, expect=0)
+    pages.encode(256, 13, 1, ref.CODE_A, [0] * 13, expect=0)
 
 
 @group("syndrome")
@@ -194,17 +194,17 @@ def syndrome(pages, random):
     for q, k, j in ((3, 1, 1), (256, 1, 1), (10, 2, 1), (5, 3, 2), (255, 7, 3), (256, 13, 4), (4, 31, 6), (129, 57, 8),
                     (128, 100, 5), (17, 133, 12), (251, 256, 8), (7, 381, 20), (200, 993, 32), (100, 1021, 12),
                     (5, 4095, 9), (256, 4096, 32)):
-        pages.syndrome(q, k, ref.table_of(positions_for(random, k, j)), random.symbols(q, 2 * k), expect=0)
+        pages.syndrome(q, k, 1, ref.table_of(positions_for(random, k, j)), random.symbols(q, 2 * k), expect=0)
     # A code word, one with a replaced symbol, and the largest and smallest values of a sum less a check.
     for q, k, j in ((10, 57, 8), (251, 133, 12)):
         positions = positions_for(random, k, j)
-        page = ref.code_word(q, k, positions, random.symbols(q, k))
-        pages.syndrome(q, k, ref.table_of(positions), page, expect=0)
-        pages.syndrome(q, k, ref.table_of(positions), damaged(random, q, page, random_places(random, k, 1)), expect=0)
+        page = ref.code_word(q, k, [positions], random.symbols(q, k))
+        pages.syndrome(q, k, 1, ref.table_of(positions), page, expect=0)
+        pages.syndrome(q, k, 1, ref.table_of(positions), damaged(random, q, page, random_places(random, k, 1)), expect=0)
     for q in (129, 256):
         table = ref.table_of(positions_for(random, 307, 18))
-        pages.syndrome(q, 307, table, [q - 1] * 307 + [0] * 307, expect=0)
-        pages.syndrome(q, 307, table, [0] * 307 + [q - 1] * 307, expect=0)
+        pages.syndrome(q, 307, 1, table, [q - 1] * 307 + [0] * 307, expect=0)
+        pages.syndrome(q, 307, 1, table, [0] * 307 + [q - 1] * 307, expect=0)
 
 
 @group("decode, clean pages")
@@ -216,7 +216,7 @@ def clean(pages, random):
                                 (256, 4096, 10, [0]), (100, 4096, 32, [0, 1, 2])):
         positions = positions_for(random, k, j)
         data = random.symbols(q, k)
-        got = pages.decode(q, k, ref.table_of(positions), ref.code_word(q, k, positions, data), thresholds, expect=0)
+        got = pages.decode(q, k, 1, ref.table_of(positions), ref.code_word(q, k, [positions], data), thresholds, expect=0)
         assert got.result == data and got.counts == (1, 0, 0, 0)
 
 
@@ -226,8 +226,8 @@ def inside(pages, random):
     def inside(q, k, positions, thresholds, places):
         assert 2 * len(places) + thresholds[0] <= len(positions)
         data = random.symbols(q, k)
-        page = damaged(random, q, ref.code_word(q, k, positions, data), places)
-        got = pages.decode(q, k, ref.table_of(positions), page, thresholds, expect=0)
+        page = damaged(random, q, ref.code_word(q, k, [positions], data), places)
+        got = pages.decode(q, k, 1, ref.table_of(positions), page, thresholds, expect=0)
         assert got.result == data
 
     for q, k, j, first in ((3, 3, 2, 0), (256, 3, 2, 0), (5, 7, 3, 0), (251, 7, 3, 1), (10, 13, 4, 0), (256, 13, 4, 0),
@@ -244,7 +244,7 @@ def inside(pages, random):
     for q, k, j in ((3, 13, 4), (256, 57, 8), (251, 307, 18), (5, 993, 32)):
         positions = positions_for(random, k, j)
         at = random.below(k)
-        checks = [k + i for i in ref.checks_of(k, positions, at)]
+        checks = [k + i for i in ref.checks_of(k, [positions], at)]
         inside(q, k, positions, [0, 0], [at] + checks[:j // 2 - 1])
         inside(q, k, positions, [0, 0], checks[:j // 2])
     # Damage in data symbols next to each other.
@@ -266,18 +266,18 @@ def outside(pages, random):
         positions = positions_for(random, k, j)
         count = 2 * k // share if share else j // 2 + 1
         thresholds = random.pick(([0] * 4, [2, 1, 0, 0, 0], [j // 2, 0, 0], [1] * 3, [0] * 12))
-        page = ref.code_word(q, k, positions, random.symbols(q, k))
+        page = ref.code_word(q, k, [positions], random.symbols(q, k))
         page = damaged(random, q, page, random_places(random, k, max(count, j // 2 + 1)))
-        pages.decode(q, k, ref.table_of(positions), page, thresholds, expect=0)
+        pages.decode(q, k, 1, ref.table_of(positions), page, thresholds, expect=0)
     # Like case 10: the checks of one data symbol moved together, so that it is changed though it was right.
     for q, k, j in ((5, 13, 4), (256, 57, 8), (251, 307, 18)):
         positions = positions_for(random, k, j)
         data = random.symbols(q, k)
-        page = ref.code_word(q, k, positions, data)
+        page = ref.code_word(q, k, [positions], data)
         at = random.below(k)
-        for i in ref.checks_of(k, positions, at)[:j // 2 + 1]:
+        for i in ref.checks_of(k, [positions], at)[:j // 2 + 1]:
             page[k + i] = (page[k + i] + 3) % q
-        got = pages.decode(q, k, ref.table_of(positions), page, [0], expect=0)
+        got = pages.decode(q, k, 1, ref.table_of(positions), page, [0], expect=0)
         assert got.result != data and got.counts.end < got.counts.start
 
 
@@ -293,7 +293,7 @@ def heavy(pages, random):
                                 (4, 993, 31, [4, 3, 2, 1, 0]), (255, 993, 32, [0] * 32), (5, 1021, 12, [0] * 64),
                                 (3, 4096, 32, [0] * 64), (256, 4096, 10, [0] * 16), (128, 4095, 1, [0])):
         table = ref.table_of(positions_for(random, k, j))
-        pages.decode(q, k, table, random.symbols(q, 2 * k), thresholds, expect=0)
+        pages.decode(q, k, 1, table, random.symbols(q, 2 * k), thresholds, expect=0)
 
 
 @group("refusals one by one")
@@ -303,48 +303,48 @@ def one_by_one(pages, random):
 
     # Numbers that would pass if only their low bits were looked at are among them.
     for q in (0, 1, 261, 65541, 4294967295):
-        pages.check_table(q, k, a, expect=1)
+        pages.check_table(q, k, 1, a, expect=1)
     for bad_k in (0, 4097, 4109, 65549, 4294967295):
-        pages.check_table(5, bad_k, a, expect=2)
+        pages.check_table(5, bad_k, 1, a, expect=2)
     for q, k_, table, number in ((0, k, a, 1), (4294967295, k, a, 1), (5, k, b"", 3), (5, k, ref.table_of(range(33)), 3),
                                  (5, k, ref.table_of([0, 1, 4, 13]), 4), (5, 12, a, 5)):
-        pages.encode(q, k_, table, [0] * k_, expect=number)
-        pages.syndrome(q, k_, table, [0] * (2 * k_), expect=number)
-        pages.decode(q, k_, table, [0] * (2 * k_), [0], expect=number)
-    pages.encode(5, 0, a, [], expect=2)
-    pages.encode(5, 4097, a, [0] * 4097, expect=2)
-    pages.encode(5, 65549, a, [0] * 13, page_len=26, expect=2)
-    pages.syndrome(5, 0, a, [], expect=2)
-    pages.syndrome(5, 65549, a, [0] * 26, syndrome_len=13, expect=2)
-    pages.decode(5, 0, a, [], [0], expect=2)
-    pages.decode(5, 4097, a, [0] * 8194, [0], expect=2)
-    pages.decode(5, 65549, a, [0] * 26, [0], lengths=ref.decode_lengths(13), expect=2)
+        pages.encode(q, k_, 1, table, [0] * k_, expect=number)
+        pages.syndrome(q, k_, 1, table, [0] * (2 * k_), expect=number)
+        pages.decode(q, k_, 1, table, [0] * (2 * k_), [0], expect=number)
+    pages.encode(5, 0, 1, a, [], expect=2)
+    pages.encode(5, 4097, 1, a, [0] * 4097, expect=2)
+    pages.encode(5, 65549, 1, a, [0] * 13, page_len=26, expect=2)
+    pages.syndrome(5, 0, 1, a, [], expect=2)
+    pages.syndrome(5, 65549, 1, a, [0] * 26, syndrome_len=13, expect=2)
+    pages.decode(5, 0, 1, a, [], [0], expect=2)
+    pages.decode(5, 4097, 1, a, [0] * 8194, [0], expect=2)
+    pages.decode(5, 65549, 1, a, [0] * 26, [0], lengths=ref.decode_lengths(13, 1), expect=2)
 
     for length in (12, 14, 0):
-        pages.encode(5, k, a, [0] * length, expect=6)
+        pages.encode(5, k, 1, a, [0] * length, expect=6)
     for length in (25, 27, 0):
-        pages.encode(5, k, a, [0] * k, page_len=length, expect=6)
-        pages.syndrome(5, k, a, [0] * length, expect=6)
-        pages.decode(5, k, a, [0] * length, [0], expect=6)
+        pages.encode(5, k, 1, a, [0] * k, page_len=length, expect=6)
+        pages.syndrome(5, k, 1, a, [0] * length, expect=6)
+        pages.decode(5, k, 1, a, [0] * length, [0], expect=6)
     for length in (12, 14, 0):
-        pages.syndrome(5, k, a, [0] * 26, syndrome_len=length, expect=6)
+        pages.syndrome(5, k, 1, a, [0] * 26, syndrome_len=length, expect=6)
     for at, length in itertools.product(range(3), (12, 14, 0)):
-        pages.decode(5, k, a, [0] * 26, [0], lengths=other_length(k, at, length), expect=6)
-    pages.decode(5, k, a, [0] * 26, [0], lengths=(12, 13, 14, 52), expect=6)
-    pages.decode(256, 4096, a, [0] * 8193, [0], expect=6)
-    pages.decode(256, 4096, a, [0] * 8191, [0], expect=6)
+        pages.decode(5, k, 1, a, [0] * 26, [0], lengths=other_length(k, at, length), expect=6)
+    pages.decode(5, k, 1, a, [0] * 26, [0], lengths=(12, 13, 14, 52), expect=6)
+    pages.decode(256, 4096, 1, a, [0] * 8193, [0], expect=6)
+    pages.decode(256, 4096, 1, a, [0] * 8191, [0], expect=6)
 
     for q, symbol, place in ((3, 3, 0), (251, 251, 12), (255, 255, 5)):
-        pages.encode(q, k, a, ref.symbols(13, {place: symbol}), expect=7)
+        pages.encode(q, k, 1, a, ref.symbols(13, {place: symbol}), expect=7)
         for received in (place, place + 13):
-            pages.syndrome(q, k, a, ref.symbols(26, {received: symbol}), expect=7)
-            pages.decode(q, k, a, ref.symbols(26, {received: symbol}), [0], expect=7)
+            pages.syndrome(q, k, 1, a, ref.symbols(26, {received: symbol}), expect=7)
+            pages.decode(q, k, 1, a, ref.symbols(26, {received: symbol}), [0], expect=7)
 
     for count in (0, 65):
-        pages.decode(5, k, a, [0] * 26, [0] * count, expect=8)
+        pages.decode(5, k, 1, a, [0] * 26, [0] * count, expect=8)
     # Also where decoding would stop before it comes to the threshold.
     for thresholds in ([33], [255], [0, 33], [0] * 63 + [33]):
-        pages.decode(5, k, a, [0] * 26, thresholds, expect=9)
+        pages.decode(5, k, 1, a, [0] * 26, thresholds, expect=9)
 
 
 def spoiled(call, numbers):
@@ -367,13 +367,13 @@ def spoiled(call, numbers):
         thresholds[1] = 33
     table = ref.table_of(positions)
     if call == CHECK_TABLE:
-        return ref.table_tests(q, k, table), (q, k, table)
+        return ref.table_tests(q, k, 1, table), (q, k, 1, table)
     if call == ENCODE:
-        return ref.encode_tests(q, k, table, symbols, 2 * k), (q, k, table, symbols)
+        return ref.encode_tests(q, k, 1, table, symbols, 2 * k), (q, k, 1, table, symbols)
     if call == SYNDROME:
-        return ref.syndrome_tests(q, k, table, symbols, k), (q, k, table, symbols)
-    return (ref.decode_tests(q, k, table, symbols, thresholds, *ref.decode_lengths(k)),
-            (q, k, table, symbols, thresholds))
+        return ref.syndrome_tests(q, k, 1, table, symbols, k), (q, k, 1, table, symbols)
+    return (ref.decode_tests(q, k, 1, table, symbols, thresholds, *ref.decode_lengths(k, 1)),
+            (q, k, 1, table, symbols, thresholds))
 
 
 @group("refusals in pairs and all together")
@@ -418,7 +418,7 @@ def turned_back(q, k, positions):
     wrong = []
     for check in positions[:len(positions) // 2 + 1]:
         others = [(check - p) % k for p in positions if p != check]
-        wrong.append(min(others, key=lambda l: sum(ref.shared(k, positions, l, m) for m in wrong)))
+        wrong.append(min(others, key=lambda l: sum(ref.shared(k, [positions], l, m) for m in wrong)))
     return [1 if i in wrong else 0 for i in range(2 * k)]
 
 
@@ -427,32 +427,32 @@ def threshold_lists(pages, random):
     for count in (1, 2, 3, 5, 8, 13, 21, 31, 32, 33, 48, 63, 64):
         q, k, j = random.pick(((3, 133, 12), (10, 57, 8), (251, 31, 6)))
         positions = positions_for(random, k, j)
-        page = ref.code_word(q, k, positions, random.symbols(q, k))
+        page = ref.code_word(q, k, [positions], random.symbols(q, k))
         page = damaged(random, q, page, random_places(random, k, k // 4))
         thresholds = [random.below(3) for _ in range(count)]
-        pages.decode(q, k, ref.table_of(positions), page, thresholds, expect=0)
+        pages.decode(q, k, 1, ref.table_of(positions), page, thresholds, expect=0)
     # Falling, rising, and large ones, with data symbols replaced.
     for q, k, j, thresholds in ((10, 57, 8, list(range(8, -1, -1))), (256, 993, 32, list(range(33))),
                                 (256, 993, 32, [32] * 64), (256, 993, 32, [31, 32, 0, 32] * 16), (10, 57, 8, [0] * 64)):
         positions = positions_for(random, k, j)
-        page = ref.code_word(q, k, positions, random.symbols(q, k))
+        page = ref.code_word(q, k, [positions], random.symbols(q, k))
         page = damaged(random, q, page, random.some(range(k), 4))
-        pages.decode(q, k, ref.table_of(positions), page, thresholds, expect=0)
+        pages.decode(q, k, 1, ref.table_of(positions), page, thresholds, expect=0)
     # Many passes: the thresholds used up, and an idle pass that is the last of the list or the one before it.
     table = ref.table_of([0, 1, 100, 300])
     for length, count, passes, changes in ((70, 64, 64, 64), (63, 64, 64, 63), (62, 64, 63, 62), (30, 20, 20, 20)):
         page = chain(random, length)
-        while ref.decode(256, 512, table, page, [0] * count, *ref.decode_lengths(512))[1].changes_of_pass != \
+        while ref.decode(256, 512, 1, table, page, [0] * count, *ref.decode_lengths(512, 1))[1].changes_of_pass != \
                 ([1] * length + [0])[:count]:
             page = chain(random, length)
-        got = pages.decode(256, 512, table, page, [0] * count, expect=0)
+        got = pages.decode(256, 512, 1, table, page, [0] * count, expect=0)
         assert (got.counts.passes, got.counts.changes) == (passes, changes)
     # The largest lead, J + 1, against a threshold of J and of J + 1.
     for q, k, positions, second, changes_of_pass in ((256, 512, [0, 1, 100, 300], 4, [4, 1]),
                                                      (256, 512, [0, 1, 100, 300], 5, [4, 0]),
                                                      (251, 4096, greedy(4096)[:32], 32, [18, 1])):
         page = turned_back(q, k, positions)
-        got = pages.decode(q, k, ref.table_of(positions), page, [0, second], expect=0)
+        got = pages.decode(q, k, 1, ref.table_of(positions), page, [0, second], expect=0)
         assert got.changes_of_pass == changes_of_pass
 
 
@@ -460,14 +460,14 @@ def threshold_lists(pages, random):
 def cases_1_to_10(pages, random):
     a, b = ref.CODE_A, ref.table_of([0, 1, 3])
     for k, table, number in ((13, a, 0), (12, a, 5), (7, b, 0), (6, b, 5), (1, ref.table_of([0]), 0)):
-        pages.check_table(256, k, table, expect=number)
-    pages.encode(256, 1, ref.table_of([0]), [77], expect=0)
-    pages.encode(256, 13, a, ref.symbols(13, {0: 7}), expect=0)
-    pages.encode(256, 13, a, ref.symbols(13, {0: 10, 12: 250}), expect=0)
+        pages.check_table(256, k, 1, table, expect=number)
+    pages.encode(256, 1, 1, ref.table_of([0]), [77], expect=0)
+    pages.encode(256, 13, 1, a, ref.symbols(13, {0: 7}), expect=0)
+    pages.encode(256, 13, 1, a, ref.symbols(13, {0: 10, 12: 250}), expect=0)
     for page, thresholds in ((ref.page_a({0: 7}), [2, 2]), (ref.page_a({0: 7}), [3, 2]), (ref.page_a({}, {2: 9}), [0]),
                              (ref.page_a({0: 7, 1: 3}), [0, 0]),
                              (ref.page_a({}, {0: 251, 1: 251, 4: 251}), [0])):
-        pages.decode(256, 13, a, page, thresholds, expect=0)
+        pages.decode(256, 13, 1, a, page, thresholds, expect=0)
 
 
 @group("margins, heavy damage")
@@ -479,7 +479,7 @@ def margins_heavy(pages, random):
         q = random.pick((3, 4, 5, 10, 251, 256))
         thresholds = random.pick(([0], [j // 4], [j // 2], [1, 0, 0, 0]))
         table = ref.table_of(positions_for(random, k, j))
-        seen |= set(pages.decode(q, k, table, random.symbols(q, 2 * k), thresholds, expect=0).margins)
+        seen |= set(pages.decode(q, k, 1, table, random.symbols(q, 2 * k), thresholds, expect=0).margins)
     assert min(seen) < -5 and max(seen) > 20 and len(seen) > 30
 
 
@@ -502,7 +502,7 @@ def margins_all(pages, random):
         seen = set()
         # A threshold of 32 leaves every received page as it is.
         for page, thresholds in ((stepped(random, q, k), [32]), (back, [0]), (all_but_one, [0])):
-            seen |= set(pages.decode(q, k, ref.table_of(positions), page, thresholds, expect=0).margins)
+            seen |= set(pages.decode(q, k, 1, ref.table_of(positions), page, thresholds, expect=0).margins)
         j = len(positions)
         assert seen == set(range(-j - 1, j + 2)) - {j}
 
@@ -511,7 +511,7 @@ def margin_lengths(pages, cases, less):
     """Lengths of the margins that are refused: those of the cases, a k each, then a length with something else amiss."""
     margins = 3
     for k, length in cases:
-        pages.decode(5, k, ref.CODE_A, [0] * (2 * k), [0], lengths=other_length(k, margins, length), expect=6)
+        pages.decode(5, k, 1, ref.CODE_A, [0] * (2 * k), [0], lengths=other_length(k, margins, length), expect=6)
     for met in [(number,) for number in range(1, 10)] + [(7, 8, 9)]:
         _, arguments = spoiled(DECODE, met)
         k = arguments[1]

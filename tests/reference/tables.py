@@ -7,7 +7,7 @@ PRIMES = [2, 3, 5, 7, 11, 13, 17, 19, 23, 29, 31]
 
 
 def show(k, positions):
-    assert ref.check_table(256, k, ref.table_of(positions)) == 0, (k, positions)
+    assert ref.check_table(256, k, 1, ref.table_of(positions)) == 0, (k, positions)
     print(f"    {k}: {' '.join(map(str, positions))}")
 
 
