@@ -359,8 +359,8 @@ def branches_check():
     number, got = decode(256, 13, 2, table, page, [0, 0], *decode_lengths(13, 2))
     assert number == 0 and got[:3] == ([0] * 26, [0] * 13, symbols(26, {25: 6})) and got.counts == (2, 1, 2, 1)
     assert got.margins == [3] * 25 + [1]
-    # With threshold 1 it stays. Its checks are 12 and 1; check 12 is one of symbols 12, 11 of branch 0 and 10 of branch 1,
-    # check 1 of symbols 1, 0 of branch 0 and 1 of branch 1.
+    # With threshold 1 it stays. Its checks are 12 and 1. Check 12 is also one of symbols 12, 11 of branch 0 and 10 of
+    # branch 1, check 1 one of symbols 1, 0 of branch 0 and 1 of branch 1.
     number, got = decode(256, 13, 2, table, page, [1, 0], *decode_lengths(13, 2))
     assert number == 0 and got.result == page[:26] and got.counts == (1, 0, 2, 2)
     assert got.margins == [-1 if j == 25 else 1 if j in (0, 1, 11, 12, 13 + 1, 13 + 10) else 3 for j in range(26)]
