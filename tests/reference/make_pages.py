@@ -775,7 +775,8 @@ def branch_places(k, b, count, random):
 @group("branches, encode and syndrome")
 def branches_encode(pages, random):
     for q, k, b, j in ((3, 1, 2, 1), (256, 1, 8, 1), (5, 2, 3, 1), (10, 5, 2, 2), (7, 13, 2, 3), (256, 13, 2, 3),
-                       (4, 15, 2, 3), (251, 17, 8, 2), (17, 40, 3, 4), (129, 156, 5, 6), (255, 400, 7, 8), (128, 57, 3, 3),
+                       (4, 15, 2, 3), (251, 17, 8, 2), (17, 40, 3, 4), (129, 156, 5, 6), (255, 400, 7, 8),
+                       (128, 57, 3, 3),
                        (200, 512, 8, 7), (256, 1024, 4, 8), (251, 1024, 2, 8), (3, 819, 5, 10), (256, 2048, 2, 20),
                        (251, 585, 7, 5), (100, 1365, 3, 3)):
         table = ref.table_of(*runs_for(random, k, b, j))
@@ -882,8 +883,8 @@ def branches_heavy(pages, random):
 
 @group("branches, margins")
 def branches_margins(pages, random):
-    """Each value that the margins of a code can have, but for the lowest two, in every branch: S is 0 in the first half and
-    mostly 1 in the second, and a threshold of 32 leaves it. The lowest two are those of a symbol of branch 1 that was
+    """Each value that the margins of a code can have, but for the lowest two, in every branch: S is 0 in the first half
+    and mostly 1 in the second, and a threshold of 32 leaves it. The lowest two are those of a symbol of branch 1 that was
     changed and is to be changed back, by all J + 1 estimates or by all but one."""
     for q, k, b, j in ((256, 512, 2, 4), (5, 512, 8, 4), (7, 1024, 3, 6)):
         runs = greedy_runs(k, b, j)
