@@ -153,8 +153,8 @@ def runs_for(random, k, b, j):
     return runs
 
 
-# Two runs as wide as a search found them: k, and the runs. Each is a union of cosets of a group of factors modulo k.
-WIDEST = (2026, [sorted([0, 108, 1376, 798, 1838, 156, 862, 1828, 854, 1576, 1020, 1740, 335, 929, 393, 1743, 709, 1567,
-                         1243, 1167, 799, 1363, 895]),
-                 sorted([0, 93, 397, 1869, 1639, 1485, 1699, 1349, 1467, 119, 203, 823, 372, 1588, 1398, 478, 1888, 718,
-                         1344, 1816, 476, 812, 1266])])
+# The widest two runs that a search found, 25 positions each: 0 and two cosets of a group of factors modulo k.
+WIDEST = (2044, [[0, 1, 4, 27, 65, 96, 108, 137, 260, 373, 488, 535, 548, 729, 872, 888, 912, 1060, 1287, 1448, 1492,
+                1655, 1755, 1761, 1895],
+                [0, 68, 83, 88, 120, 197, 299, 332, 417, 516, 533, 541, 788, 836, 1039, 1140, 1151, 1196, 1231, 1307,
+                1481, 1632, 1668, 1836, 1941]])

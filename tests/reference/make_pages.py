@@ -586,6 +586,16 @@ def branches_limits(pages, random):
             pages.check_table(3, k, b, table, expect=number)
     for b, k in ((2, 4096), (2, 2050), (3, 1400), (4, 4096), (8, 4096), (8, 520), (5, 1000), (7, 600)):
         pages.check_table(3, k, b, ref.table_of(*[[0]] * b), expect=10)
+    # After 1 and 2 and before all else, whether b or b times k is at fault.
+    for b, k in ((0, 13), (9, 13), (2, 2049), (8, 513), (2 ** 32 - 1, 4096)):
+        for table in (b"", ref.table_of([0, 1, 4]), ref.table_of([1, 0], [0, 1]), ref.table_of([0, 1], [0, 1])):
+            pages.check_table(5, k, b, table, expect=10)
+            pages.check_table(5, 4097, b, table, expect=2)
+        pages.check_table(2, 0, b, b"", expect=1)
+        pages.check_table(5, 0, b, b"", expect=2)
+        pages.encode(5, k, b, b"", [5] * 3, page_len=4, expect=10)
+        pages.syndrome(5, k, b, b"", [5] * 3, syndrome_len=4, expect=10)
+        pages.decode(5, k, b, b"", [5] * 3, [33] * 65, lengths=(1, 2, 3, 4), expect=10)
 
 
 @group("branches, runs that are not of equal length")
@@ -722,7 +732,7 @@ def spoiled_branches(call, met):
     b = 9 if 10 in met else 2
     runs = [[0, d] for d in range(1, b + 1)]
     if 3 in met:
-        runs = [[0, *(p for p in range(33) if p)] for _ in range(b)] if 4 in met or 5 in met else []
+        runs = [list(range(33)) for _ in range(b)] if 4 in met or 5 in met else []
     elif 5 in met:
         runs = [[0, 1]] * b
     if 4 in met:
