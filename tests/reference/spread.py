@@ -3,12 +3,13 @@ whole of k, each kept where it brings no difference a second time. Each is tried
 
     spread.py               the tables of docs/TABLES.md
     spread.py K B J [SEED]  one more
+    spread.py --greedy      the greedy ones that docs/TABLES.md compares them with
 """
 
 import sys
 
 import reference as ref
-from codes import Random
+from codes import Random, greedy_runs
 
 # k, b and J of the tables.
 TABLES = [(256, 1, 8), (512, 1, 8), (512, 1, 10), (1024, 1, 8), (1024, 1, 10), (1024, 1, 12), (2048, 1, 8),
@@ -17,6 +18,9 @@ TABLES = [(256, 1, 8), (512, 1, 8), (512, 1, 10), (1024, 1, 8), (1024, 1, 10), (
           (2048, 2, 12),
           (64, 4, 3), (128, 4, 4), (256, 4, 5), (512, 4, 5), (512, 4, 6), (1024, 4, 5), (1024, 4, 6), (1024, 4, 8),
           (64, 8, 2), (128, 8, 3), (256, 8, 4), (512, 8, 4), (512, 8, 5), (512, 8, 6)]
+
+COMPARED = [(1024, 1, 8), (1024, 1, 10), (2048, 1, 8), (2048, 1, 10), (4096, 1, 8), (4096, 1, 10), (1024, 2, 6),
+            (1024, 2, 8), (1024, 4, 5), (1024, 4, 6)]
 
 DRAWS = 4000  # for one position, before all is begun anew
 
@@ -53,9 +57,13 @@ def line(k, runs):
 
 
 def main(arguments):
-    tables = [tuple(map(int, arguments))] if arguments else TABLES
+    make, tables = spread, TABLES
+    if arguments == ["--greedy"]:
+        make, tables = greedy_runs, COMPARED
+    elif arguments:
+        tables = [tuple(map(int, arguments))]
     for table in tables:
-        print("    " + line(table[0], spread(*table)))
+        print("    " + line(table[0], make(*table)))
 
 
 if __name__ == "__main__":
