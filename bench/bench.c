@@ -57,11 +57,12 @@ enum { IMPLEMENTATIONS = sizeof implementations / sizeof implementations[0] };
 /* ---- Codes, pages and rows ---- */
 
 struct code {
-    uint32_t k, positions, spread;
+    uint32_t k, b, positions, spread; /* positions of each branch */
 };
 
 /* The first is the example of document 01; spread is coprime to k. */
-static const struct code codes[] = {{13, 4, 1}, {1021, 12, 388}, {4096, 10, 1531}, {4096, 32, 1531}};
+static const struct code codes[] = {{13, 1, 4, 1},      {1021, 1, 12, 388}, {4096, 1, 10, 1531},
+                                    {4096, 1, 32, 1531}, {1024, 2, 8, 387},  {1024, 4, 8, 387}};
 enum { CODES = sizeof codes / sizeof codes[0] };
 
 static const uint32_t alphabets[] = {256, 251};
@@ -79,15 +80,15 @@ static const char *const call_names[] = {"check_table", "encode", "syndrome", "d
 struct row {
     char name[80];
     enum call call;
-    uint32_t q, k, positions;
-    uint8_t table[2 * QMTD_MAX_J], thresholds[4], data[QMTD_MAX_K], page[2 * QMTD_MAX_K];
+    uint32_t q, k, b, positions, symbols; /* data symbols of all branches */
+    uint8_t table[QMTD_MAX_TABLE_LEN], thresholds[4], data[QMTD_MAX_DATA], page[QMTD_MAX_PAGE_LEN];
 };
 
 /* What a call returns and writes. */
 struct answer {
     uint32_t number;
-    uint8_t page[2 * QMTD_MAX_K], result[QMTD_MAX_K], syndrome[QMTD_MAX_K], difference[QMTD_MAX_K];
-    uint8_t margins[QMTD_MARGINS_LEN(QMTD_MAX_K)], counts[QMTD_COUNTS_LEN];
+    uint8_t page[QMTD_MAX_PAGE_LEN], result[QMTD_MAX_DATA], syndrome[QMTD_MAX_K], difference[QMTD_MAX_DATA];
+    uint8_t margins[QMTD_MARGINS_LEN(QMTD_MAX_DATA, 1)], counts[QMTD_COUNTS_LEN];
 };
 
 /* A generator of numbers that are the same in every run (xorshift). */
@@ -101,49 +102,63 @@ static uint32_t draw(uint32_t below)
     return (uint32_t)((generator >> 32) * below >> 32);
 }
 
-/* Makes a table greedily: each position is the first that gives no difference twice. All are then multiplied by the
- * spread, which keeps the differences apart, so that the positions lie all over the ring. */
-static void make_table(const struct code *code, uint8_t *table)
+/* Takes the next position of a run: the first above the last one that gives no difference twice; taken has a flag for
+ * each difference of all runs. Was there one? */
+static int take_position(uint32_t k, uint32_t *run, uint32_t n, uint8_t *taken)
 {
-    uint32_t k = code->k, n = 0, positions[QMTD_MAX_J];
-    uint8_t taken[QMTD_MAX_K] = {0}, used[QMTD_MAX_K] = {0};
-    for (uint32_t p = 0; n < code->positions && p < k; p++) {
+    for (uint32_t p = n == 0 ? 0 : run[n - 1] + 1; p < k; p++) {
         uint8_t trial[QMTD_MAX_K];
         memcpy(trial, taken, k);
         uint32_t a = 0;
         for (; a < n; a++) {
-            uint32_t d = p - positions[a];
+            uint32_t d = p - run[a];
             if (trial[d]++ || trial[k - d]++)
                 break;
         }
         if (a < n)
             continue;
         memcpy(taken, trial, k);
-        positions[n++] = p;
+        run[n] = p;
+        return 1;
     }
-    if (n < code->positions) {
-        fprintf(stderr, "no table with k = %u and %u positions\n", (unsigned)k, (unsigned)code->positions);
-        exit(1);
+    return 0;
+}
+
+/* Makes a table greedily, the runs in turn. All positions are then multiplied by the spread, which keeps the
+ * differences apart, so that they lie all over the ring. */
+static void make_table(const struct code *code, uint8_t *table)
+{
+    uint32_t k = code->k, runs[QMTD_MAX_B][QMTD_MAX_J];
+    uint8_t taken[QMTD_MAX_K] = {0};
+    for (uint32_t n = 0; n < code->positions; n++)
+        for (uint32_t r = 0; r < code->b; r++)
+            if (!take_position(k, runs[r], n, taken)) {
+                fprintf(stderr, "no table with k = %u, b = %u and %u positions a branch\n", (unsigned)k,
+                        (unsigned)code->b, (unsigned)code->positions);
+                exit(1);
+            }
+    for (uint32_t r = 0; r < code->b; r++) {
+        uint8_t used[QMTD_MAX_K] = {0};
+        for (uint32_t a = 0; a < code->positions; a++)
+            used[runs[r][a] * code->spread % k] = 1;
+        for (uint32_t p = 0; p < k; p++)
+            if (used[p]) {
+                *table++ = (uint8_t)p;
+                *table++ = (uint8_t)(p >> 8);
+            }
     }
-    for (uint32_t a = 0; a < n; a++)
-        used[positions[a] * code->spread % k] = 1;
-    for (uint32_t p = 0; p < k; p++)
-        if (used[p]) {
-            *table++ = (uint8_t)p;
-            *table++ = (uint8_t)(p >> 8);
-        }
 }
 
 /* Makes the row's page: data drawn, encoded by the library, then the damage, rounded up to whole symbols. */
 static void make_page(struct row *row, uint32_t damage)
 {
-    uint32_t q = row->q, k = row->k, n = 2 * k;
-    uint8_t replaced[2 * QMTD_MAX_K] = {0};
+    uint32_t q = row->q, k = row->k, b = row->b, table_len = 2 * b * row->positions, n = row->symbols + k;
+    uint8_t replaced[QMTD_MAX_PAGE_LEN] = {0};
     generator = 0x9E3779B97F4A7C15u;
-    for (uint32_t i = 0; i < k; i++)
+    for (uint32_t i = 0; i < row->symbols; i++)
         row->data[i] = (uint8_t)draw(q);
-    if (qmtd_check_table(q, k, row->table, 2 * row->positions) != QMTD_OK ||
-        qmtd_encode(q, k, row->table, 2 * row->positions, row->data, k, row->page, n) != QMTD_OK) {
+    if (qmtd_check_table(q, k, b, row->table, table_len) != QMTD_OK ||
+        qmtd_encode(q, k, b, row->table, table_len, row->data, row->symbols, row->page, n) != QMTD_OK) {
         fprintf(stderr, "%s: the library refuses the table\n", row->name);
         exit(1);
     }
@@ -159,15 +174,18 @@ static void make_page(struct row *row, uint32_t damage)
 
 static void make_row(struct row *row, const struct code *code, uint32_t q, enum call call, uint32_t damage)
 {
-    char kind[16] = "";
+    char kind[16] = "", branches[16] = "";
     uint32_t j = code->positions;
-    *row = (struct row){.call = call, .q = q, .k = code->k, .positions = j};
+    *row = (struct row){
+        .call = call, .q = q, .k = code->k, .b = code->b, .positions = j, .symbols = code->b * code->k};
     if (call == DECODE && damage == 0)
         strcpy(kind, " clean");
     else if (call == DECODE)
         snprintf(kind, sizeof kind, " %u%%", (unsigned)damage);
-    snprintf(row->name, sizeof row->name, "k=%u J=%u q=%u %s%s", (unsigned)code->k, (unsigned)j, (unsigned)q,
-             call_names[call], kind);
+    if (code->b > 1)
+        snprintf(branches, sizeof branches, " b=%u", (unsigned)code->b);
+    snprintf(row->name, sizeof row->name, "k=%u%s J=%u q=%u %s%s", (unsigned)code->k, branches, (unsigned)j,
+             (unsigned)q, call_names[call], kind);
     make_table(code, row->table);
     row->thresholds[0] = (uint8_t)(j / 4);
     row->thresholds[1] = (uint8_t)(j / 8);
@@ -180,23 +198,24 @@ static void make_row(struct row *row, const struct code *code, uint32_t q, enum 
 
 static void make_call(const struct implementation *by, const struct row *row, struct answer *answer)
 {
-    uint32_t q = row->q, k = row->k;
+    uint32_t q = row->q, k = row->k, b = row->b, n = row->symbols;
     const uint8_t *table = row->table;
-    size_t table_len = 2 * row->positions;
+    size_t table_len = 2 * b * row->positions;
     switch (row->call) {
     case CHECK_TABLE:
-        answer->number = by->check_table(q, k, table, table_len);
+        answer->number = by->check_table(q, k, b, table, table_len);
         break;
     case ENCODE:
-        answer->number = by->encode(q, k, table, table_len, row->data, k, answer->page, 2 * k);
+        answer->number = by->encode(q, k, b, table, table_len, row->data, n, answer->page, n + k);
         break;
     case SYNDROME:
-        answer->number = by->syndrome(q, k, table, table_len, row->page, 2 * k, answer->syndrome, k);
+        answer->number = by->syndrome(q, k, b, table, table_len, row->page, n + k, answer->syndrome, k);
         break;
     case DECODE:
-        answer->number = by->decode(q, k, table, table_len, row->page, 2 * k, row->thresholds, sizeof row->thresholds,
-                                    answer->result, k, answer->syndrome, k, answer->difference, k, answer->margins,
-                                    4 * k, answer->counts, sizeof answer->counts);
+        answer->number = by->decode(q, k, b, table, table_len, row->page, n + k, row->thresholds,
+                                    sizeof row->thresholds, answer->result, n, answer->syndrome, k,
+                                    answer->difference, n, answer->margins, 4 * n, answer->counts,
+                                    sizeof answer->counts);
         break;
     }
 }
@@ -276,19 +295,19 @@ static void measure(const struct row *row, int rounds, double batch, double *bes
 static void print_head(int ns)
 {
     printf("decode: thresholds J/4, J/8, 1, 0\n");
-    printf("%-32s %8s ", "", "library");
+    printf("%-36s %8s ", "", "library");
     for (int i = 1; i < IMPLEMENTATIONS; i++)
         printf(" %11s", implementations[i].name);
-    printf("   passes changes\n%-32s %8s  %s\n", "", "ns/byte",
+    printf("   passes changes\n%-36s %8s  %s\n", "", "ns/byte",
            ns ? "ns/byte" : "library speed / C speed; above 1 the library is faster");
 }
 
 static void print_row(const struct row *row, const double *best, const struct answer *answer, int ns)
 {
-    printf("%-32s %8.3f ", row->name, best[0] / row->k);
+    printf("%-36s %8.3f ", row->name, best[0] / row->symbols);
     for (int i = 1; i < IMPLEMENTATIONS; i++)
         if (ns)
-            printf(" %11.3f", best[i] / row->k);
+            printf(" %11.3f", best[i] / row->symbols);
         else
             printf(" %11.2f", best[i] / best[0]);
     if (row->call == DECODE)
@@ -300,7 +319,7 @@ static void print_row(const struct row *row, const double *best, const struct an
 /* The rows that bench/count counts. */
 static int to_count(const struct row *row, uint32_t damage)
 {
-    return (row->k == 1021 || row->positions == 32) &&
+    return (row->k == 1021 || row->positions == 32 || row->b == 4) &&
            (row->call == ENCODE || (row->call == DECODE && (damage == 0 || damage == 5)));
 }
 
@@ -310,7 +329,7 @@ static void count_row(const struct row *row)
     for (int i = 0; i < IMPLEMENTATIONS; i++)
         if (strncmp(implementations[i].name, "plain", 5) != 0) {
             counted_call(&implementations[i], row, &answer);
-            printf("%u\t%s\t%s\n", (unsigned)row->k, implementations[i].name, row->name);
+            printf("%u\t%s\t%s\n", (unsigned)row->symbols, implementations[i].name, row->name);
         }
 }
 

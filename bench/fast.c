@@ -16,49 +16,68 @@ decode_call CALL(decode);
 
 /* ---- The table ---- */
 
+/* The positions of a branch. */
 struct positions {
     size_t count;
     size_t at[QMTD_MAX_J];
 };
 
-static uint32_t read_table(uint32_t q, uint32_t k, const uint8_t *table, uint64_t table_len, struct positions *positions)
+struct branches {
+    size_t count;
+    struct positions of[QMTD_MAX_B];
+};
+
+static uint32_t read_table(uint32_t q, uint32_t k, uint32_t b, const uint8_t *table, uint64_t table_len,
+                           struct branches *branches)
 {
-    size_t n = table_len / 2;
     if (q < QMTD_MIN_Q || q > QMTD_MAX_Q)
         return QMTD_BAD_Q;
     if (k < QMTD_MIN_K || k > QMTD_MAX_K)
         return QMTD_BAD_K;
-    if (table_len % 2 != 0 || n < QMTD_MIN_J || n > QMTD_MAX_J)
+    if (b < QMTD_MIN_B || b > QMTD_MAX_B || b * k > QMTD_MAX_DATA)
+        return QMTD_BAD_BRANCHES;
+    if (table_len % 2 != 0 || table_len > QMTD_MAX_TABLE_LEN)
+        return QMTD_BAD_J;
+    uint32_t all = (uint32_t)table_len / 2, n = all / b;
+    if (n * b != all || n < QMTD_MIN_J || n > QMTD_MAX_J)
         return QMTD_BAD_J;
 
-    size_t least = 0; /* the smallest that the next position may be */
-    positions->count = n;
-    for (size_t a = 0; a < n; a++) {
-        size_t p = table[2 * a] | (size_t)table[2 * a + 1] << 8;
-        if (p < least || p >= k)
-            return QMTD_BAD_POSITION;
-        positions->at[a] = p;
-        least = p + 1;
+    branches->count = b;
+    for (uint32_t r = 0; r < b; r++) {
+        struct positions *positions = &branches->of[r];
+        size_t least = 0; /* the smallest that the next position may be */
+        positions->count = n;
+        for (size_t a = 0; a < n; a++) {
+            size_t p = table[0] | (size_t)table[1] << 8;
+            if (p < least || p >= k)
+                return QMTD_BAD_POSITION;
+            positions->at[a] = p;
+            least = p + 1;
+            table += 2;
+        }
     }
 
-    /* One flag for each difference; a pair of positions marks two. */
+    /* One flag for each difference, for all runs; a pair of positions marks two. */
     uint8_t marked[QMTD_MAX_K], twice = 0;
     memset(marked, 0, k);
-    for (size_t a = 1; a < n; a++)
-        for (size_t b = 0; b < a; b++) {
-            size_t d = positions->at[a] - positions->at[b];
-            twice |= marked[d];
-            marked[d] = 1;
-            twice |= marked[k - d];
-            marked[k - d] = 1;
-        }
+    for (uint32_t r = 0; r < b; r++) {
+        const struct positions *positions = &branches->of[r];
+        for (size_t a = 1; a < n; a++)
+            for (size_t c = 0; c < a; c++) {
+                size_t d = positions->at[a] - positions->at[c];
+                twice |= marked[d];
+                marked[d] = 1;
+                twice |= marked[k - d];
+                marked[k - d] = 1;
+            }
+    }
     return twice ? QMTD_NOT_SELF_ORTHOGONAL : QMTD_OK;
 }
 
-uint32_t CALL(check_table)(uint32_t q, uint32_t k, const uint8_t *table, uint64_t table_len)
+uint32_t CALL(check_table)(uint32_t q, uint32_t k, uint32_t b, const uint8_t *table, uint64_t table_len)
 {
-    struct positions positions;
-    return read_table(q, k, table, table_len, &positions);
+    struct branches branches;
+    return read_table(q, k, b, table, table_len, &branches);
 }
 
 /* ---- Whole runs of symbols ---- */
@@ -159,68 +178,89 @@ static void write_difference(uint32_t q, uint8_t *restrict to, const uint8_t *re
             to[i] = subtract((uint8_t)q, symbols[i], less[i]);
 }
 
-/* Adds the rows of all positions but the first. The row of a position is the data rotated by it; two rows are added in
- * one pass, as three straight runs, so that a sum is loaded and stored once for both. */
-static void add_rows(uint32_t q, size_t k, const struct positions *positions, const uint8_t *restrict data,
+/* Adds two rows in one pass, as three straight runs, so that a sum is loaded and stored once for both. The row of a
+ * position is the data of its branch rotated by it. */
+static void add_two_rows(uint32_t q, size_t k, uint8_t *restrict sums, const uint8_t *one, size_t p,
+                         const uint8_t *other, size_t r)
+{
+    if (p > r) {
+        const uint8_t *data = one;
+        size_t position = p;
+        one = other, p = r;
+        other = data, r = position;
+    }
+    add_two_runs(q, sums + r, one + (r - p), other, k - r);
+    add_two_runs(q, sums + p, one, other + (k - r + p), r - p);
+    add_two_runs(q, sums, one + (k - p), other + (k - r), p);
+}
+
+/* Adds the rows of all positions of all branches but the first of the first, two at a time. */
+static void add_rows(uint32_t q, size_t k, const struct branches *branches, const uint8_t *restrict data,
                      uint8_t *restrict sums)
 {
-    size_t a = 1;
-    for (; a + 1 < positions->count; a += 2) {
-        size_t p = positions->at[a], r = positions->at[a + 1];
-        add_two_runs(q, sums + r, data + (r - p), data, k - r);
-        add_two_runs(q, sums + p, data, data + (k - r + p), r - p);
-        add_two_runs(q, sums, data + (k - p), data + (k - r), p);
-    }
-    if (a < positions->count) {
-        size_t p = positions->at[a];
-        add_run(q, sums + p, data, k - p);
-        add_run(q, sums, data + (k - p), p);
+    const uint8_t *one = NULL; /* the data of a row that has no second yet, and its position */
+    size_t p = 0, a = 1;
+    for (size_t r = 0; r < branches->count; r++, data += k, a = 0)
+        for (; a < branches->of[r].count; a++) {
+            if (one == NULL) {
+                one = data;
+                p = branches->of[r].at[a];
+            } else {
+                add_two_rows(q, k, sums, one, p, data, branches->of[r].at[a]);
+                one = NULL;
+            }
+        }
+    if (one != NULL) {
+        add_run(q, sums + p, one, k - p);
+        add_run(q, sums, one + (k - p), p);
     }
 }
 
-uint32_t CALL(encode)(uint32_t q, uint32_t k, const uint8_t *table, uint64_t table_len,
+uint32_t CALL(encode)(uint32_t q, uint32_t k, uint32_t b, const uint8_t *table, uint64_t table_len,
                       const uint8_t *data, uint64_t data_len, uint8_t *page, uint64_t page_len)
 {
-    struct positions positions;
-    uint32_t number = read_table(q, k, table, table_len, &positions);
+    struct branches branches;
+    uint32_t number = read_table(q, k, b, table, table_len, &branches);
     if (number != QMTD_OK)
         return number;
-    if (data_len != k || page_len != 2 * (size_t)k)
+    size_t n = (size_t)b * k;
+    if (data_len != n || page_len != n + k)
         return QMTD_BAD_LENGTH;
-    if (out_of_range(q, data, k))
+    if (out_of_range(q, data, n))
         return QMTD_BAD_SYMBOL;
 
-    size_t p = positions.at[0];
-    copy_run(page, data, k);
-    copy_run(page + k + p, data, k - p);
-    copy_run(page + k, data + (k - p), p);
-    add_rows(q, k, &positions, data, page + k);
+    size_t p = branches.of[0].at[0];
+    copy_run(page, data, n);
+    copy_run(page + n + p, data, k - p);
+    copy_run(page + n, data + (k - p), p);
+    add_rows(q, k, &branches, data, page + n);
     return QMTD_OK;
 }
 
 /* The page's checks are subtracted from the first row as it is written. */
-static void work_out_syndrome(uint32_t q, size_t k, const struct positions *positions, const uint8_t *restrict page,
+static void work_out_syndrome(uint32_t q, size_t k, const struct branches *branches, const uint8_t *restrict page,
                               uint8_t *restrict syndrome)
 {
-    size_t p = positions->at[0];
-    write_difference(q, syndrome + p, page, page + k + p, k - p);
-    write_difference(q, syndrome, page + (k - p), page + k, p);
-    add_rows(q, k, positions, page, syndrome);
+    size_t p = branches->of[0].at[0];
+    const uint8_t *checks = page + branches->count * k;
+    write_difference(q, syndrome + p, page, checks + p, k - p);
+    write_difference(q, syndrome, page + (k - p), checks, p);
+    add_rows(q, k, branches, page, syndrome);
 }
 
-uint32_t CALL(syndrome)(uint32_t q, uint32_t k, const uint8_t *table, uint64_t table_len,
+uint32_t CALL(syndrome)(uint32_t q, uint32_t k, uint32_t b, const uint8_t *table, uint64_t table_len,
                         const uint8_t *page, uint64_t page_len, uint8_t *syndrome, uint64_t syndrome_len)
 {
-    struct positions positions;
-    uint32_t number = read_table(q, k, table, table_len, &positions);
+    struct branches branches;
+    uint32_t number = read_table(q, k, b, table, table_len, &branches);
     if (number != QMTD_OK)
         return number;
-    if (page_len != 2 * (size_t)k || syndrome_len != k)
+    if (page_len != ((size_t)b + 1) * k || syndrome_len != k)
         return QMTD_BAD_LENGTH;
     if (out_of_range(q, page, page_len))
         return QMTD_BAD_SYMBOL;
 
-    work_out_syndrome(q, k, &positions, page, syndrome);
+    work_out_syndrome(q, k, &branches, page, syndrome);
     return QMTD_OK;
 }
 
@@ -258,7 +298,7 @@ static inline uint8_t vote(const uint8_t *estimates, size_t n, uint32_t zeros, u
     return lead > next + threshold ? leader : 0;
 }
 
-/* Where the checks of symbol j are, counted from j. The positions from `straight` on have wrapped. */
+/* Where the checks of symbol j of a branch are, counted from j. The positions from `straight` on have wrapped. */
 struct offsets {
     size_t straight;
     ptrdiff_t at[QMTD_MAX_J];
@@ -308,10 +348,17 @@ static inline uint32_t zeros_at(const uint8_t *symbols, const ptrdiff_t *offsets
     return zeros + more;
 }
 
-/* One pass; returns its changes. */
-static uint32_t pass(uint8_t q, size_t k, const struct positions *restrict positions, uint32_t threshold,
-                     uint8_t *restrict votes, uint8_t *restrict result, uint8_t *restrict syndrome,
-                     uint8_t *restrict difference)
+/* By clang a pass takes fewer instructions where this is a function of its own, by gcc where it is not. */
+#ifdef __clang__
+#define APART __attribute__((noinline))
+#else
+#define APART
+#endif
+
+/* The visits of one pass to one branch; returns their changes. Result and difference are the branch's. */
+APART static uint32_t visit_branch(uint8_t q, size_t k, const struct positions *restrict positions,
+                                   uint32_t threshold, uint8_t *restrict votes, uint8_t *restrict result,
+                                   uint8_t *restrict syndrome, uint8_t *restrict difference)
 {
     uint32_t changes = 0;
     size_t n = positions->count;
@@ -342,6 +389,16 @@ static uint32_t pass(uint8_t q, size_t k, const struct positions *restrict posit
     return changes;
 }
 
+/* One pass; returns its changes. */
+static uint32_t pass(uint8_t q, size_t k, const struct branches *branches, uint32_t threshold, uint8_t *votes,
+                     uint8_t *result, uint8_t *syndrome, uint8_t *difference)
+{
+    uint32_t changes = 0;
+    for (size_t r = 0; r < branches->count; r++)
+        changes += visit_branch(q, k, &branches->of[r], threshold, votes, result + r * k, syndrome, difference + r * k);
+    return changes;
+}
+
 static void write_number(uint8_t *bytes, uint32_t number)
 {
     for (int i = 0; i < 4; i++)
@@ -362,9 +419,9 @@ static inline void put_margin(uint8_t *margins, size_t j, uint32_t margin)
     __builtin_memcpy(margins + 4 * j, &margin, 4);
 }
 
-static void fill_margins(uint8_t *margins, size_t k, uint32_t margin)
+static void fill_margins(uint8_t *margins, size_t n, uint32_t margin)
 {
-    for (size_t j = 0; j < k; j++)
+    for (size_t j = 0; j < n; j++)
         put_margin(margins, j, margin);
 }
 
@@ -375,7 +432,8 @@ static void write_margins_of_zeros(uint8_t *restrict margins, const uint8_t *res
         put_margin(margins, j, zeros[j] - (uint32_t)(zeros[j] != all));
 }
 
-/* The zeros of all symbols are counted in straight runs; a vote is taken where two estimates or more are not 0. */
+/* The margins of a branch. The zeros of all its symbols are counted in straight runs; a vote is taken where two
+ * estimates or more are not 0. */
 static void write_margins(size_t k, const struct positions *restrict positions, uint8_t *restrict votes,
                           const uint8_t *restrict syndrome, const uint8_t *restrict difference,
                           uint8_t *restrict margins)
@@ -403,18 +461,19 @@ static void write_margins(size_t k, const struct positions *restrict positions, 
         }
 }
 
-uint32_t CALL(decode)(uint32_t q, uint32_t k, const uint8_t *table, uint64_t table_len,
+uint32_t CALL(decode)(uint32_t q, uint32_t k, uint32_t b, const uint8_t *table, uint64_t table_len,
                       const uint8_t *page, uint64_t page_len, const uint8_t *thresholds, uint64_t thresholds_len,
                       uint8_t *result, uint64_t result_len, uint8_t *syndrome, uint64_t syndrome_len,
                       uint8_t *difference, uint64_t difference_len, uint8_t *margins, uint64_t margins_len,
                       uint8_t *counts, uint64_t counts_len)
 {
-    struct positions positions;
-    uint32_t number = read_table(q, k, table, table_len, &positions);
+    struct branches branches;
+    uint32_t number = read_table(q, k, b, table, table_len, &branches);
     if (number != QMTD_OK)
         return number;
-    if (page_len != 2 * (size_t)k || result_len != k || syndrome_len != k || difference_len != k ||
-        margins_len != 4 * (size_t)k || counts_len != QMTD_COUNTS_LEN)
+    size_t n = (size_t)b * k;
+    if (page_len != n + k || result_len != n || syndrome_len != k || difference_len != n || margins_len != 4 * n ||
+        counts_len != QMTD_COUNTS_LEN)
         return QMTD_BAD_LENGTH;
     if (out_of_range(q, page, page_len))
         return QMTD_BAD_SYMBOL;
@@ -423,9 +482,9 @@ uint32_t CALL(decode)(uint32_t q, uint32_t k, const uint8_t *table, uint64_t tab
     if (out_of_range(QMTD_MAX_THRESHOLD + 1, thresholds, thresholds_len))
         return QMTD_BAD_THRESHOLD;
 
-    copy_run(result, page, k);
-    memset(difference, 0, k);
-    work_out_syndrome(q, k, &positions, page, syndrome);
+    copy_run(result, page, n);
+    memset(difference, 0, n);
+    work_out_syndrome(q, k, &branches, page, syndrome);
 
     /* A page at distance 0 needs no visits: its one pass changes nothing, and every estimate is 0. */
     uint32_t start = weight(syndrome, k), end = 0, passes = 1, changes = 0;
@@ -433,15 +492,16 @@ uint32_t CALL(decode)(uint32_t q, uint32_t k, const uint8_t *table, uint64_t tab
         uint8_t votes[256] = {0};
         for (passes = 0; passes < thresholds_len;) {
             uint32_t threshold = thresholds[passes++];
-            uint32_t more = pass((uint8_t)q, k, &positions, threshold, votes, result, syndrome, difference);
+            uint32_t more = pass((uint8_t)q, k, &branches, threshold, votes, result, syndrome, difference);
             changes += more;
             if (more == 0)
                 break;
         }
-        end = weight(syndrome, k) + weight(difference, k);
-        write_margins(k, &positions, votes, syndrome, difference, margins);
+        end = weight(syndrome, k) + weight(difference, n);
+        for (size_t r = 0; r < b; r++)
+            write_margins(k, &branches.of[r], votes, syndrome, difference + r * k, margins + 4 * r * k);
     } else {
-        fill_margins(margins, k, (uint32_t)positions.count + 1);
+        fill_margins(margins, n, (uint32_t)branches.of[0].count + 1);
     }
 
     write_number(counts, passes);

@@ -1,4 +1,4 @@
-/* plain.c - the four calls in plain C, straight from the steps of document 01, as one would first write them.
+/* plain.c - the four calls in plain C, straight from the steps of documents 01 and 02, as one would first write them.
  *
  * CALL(name) makes the names, plain_encode and so on; another prefix keeps the objects of two compilers apart. */
 #include "calls.h"
@@ -19,29 +19,43 @@ static uint32_t position(const uint8_t *table, size_t a)
     return table[2 * a] | (uint32_t)table[2 * a + 1] << 8;
 }
 
-uint32_t CALL(check_table)(uint32_t q, uint32_t k, const uint8_t *table, uint64_t table_len)
+/* The run of branch r: its j positions. */
+static const uint8_t *run_of(const uint8_t *table, size_t j, uint32_t r)
 {
-    size_t j = table_len / 2;
+    return table + 2 * j * r;
+}
+
+uint32_t CALL(check_table)(uint32_t q, uint32_t k, uint32_t b, const uint8_t *table, uint64_t table_len)
+{
     if (q < QMTD_MIN_Q || q > QMTD_MAX_Q)
         return QMTD_BAD_Q;
     if (k < QMTD_MIN_K || k > QMTD_MAX_K)
         return QMTD_BAD_K;
-    if (table_len % 2 != 0 || j < QMTD_MIN_J || j > QMTD_MAX_J)
+    if (b < QMTD_MIN_B || b > QMTD_MAX_B || b * k > QMTD_MAX_DATA)
+        return QMTD_BAD_BRANCHES;
+    uint64_t j = table_len / 2 / b;
+    if (table_len % 2 != 0 || table_len / 2 % b != 0 || j < QMTD_MIN_J || j > QMTD_MAX_J)
         return QMTD_BAD_J;
-    for (size_t a = 0; a < j; a++)
-        if (position(table, a) >= k || (a > 0 && position(table, a) <= position(table, a - 1)))
-            return QMTD_BAD_POSITION;
+    for (uint32_t r = 0; r < b; r++) {
+        const uint8_t *run = run_of(table, j, r);
+        for (size_t a = 0; a < j; a++)
+            if (position(run, a) >= k || (a > 0 && position(run, a) <= position(run, a - 1)))
+                return QMTD_BAD_POSITION;
+    }
 
-    /* The differences of all ordered pairs of positions, then each compared with all that follow. */
-    uint16_t differences[QMTD_MAX_J * (QMTD_MAX_J - 1)];
+    /* The differences of all ordered pairs of positions of a run, for all runs; each compared with all that follow. */
+    uint16_t differences[QMTD_MAX_B * QMTD_MAX_J * (QMTD_MAX_J - 1)];
     size_t n = 0;
-    for (size_t a = 0; a < j; a++)
-        for (size_t b = 0; b < j; b++)
-            if (a != b)
-                differences[n++] = (uint16_t)((position(table, a) + k - position(table, b)) % k);
+    for (uint32_t r = 0; r < b; r++) {
+        const uint8_t *run = run_of(table, j, r);
+        for (size_t a = 0; a < j; a++)
+            for (size_t c = 0; c < j; c++)
+                if (a != c)
+                    differences[n++] = (uint16_t)((position(run, a) + k - position(run, c)) % k);
+    }
     for (size_t a = 0; a < n; a++)
-        for (size_t b = a + 1; b < n; b++)
-            if (differences[a] == differences[b])
+        for (size_t c = a + 1; c < n; c++)
+            if (differences[a] == differences[c])
                 return QMTD_NOT_SELF_ORTHOGONAL;
     return QMTD_OK;
 }
@@ -54,52 +68,57 @@ static int all_below(uint32_t q, const uint8_t *symbols, size_t n)
     return 1;
 }
 
-/* The sum of the data symbols in check i. */
-static uint32_t check_sum(uint32_t q, uint32_t k, const uint8_t *table, size_t j, const uint8_t *data, uint32_t i)
+/* The sum of the data symbols of all branches in check i. */
+static uint32_t check_sum(uint32_t q, uint32_t k, uint32_t b, const uint8_t *table, size_t j, const uint8_t *data,
+                          uint32_t i)
 {
     uint32_t sum = 0;
-    for (size_t a = 0; a < j; a++)
-        sum += data[(i + k - position(table, a)) % k];
+    for (uint32_t r = 0; r < b; r++) {
+        const uint8_t *run = run_of(table, j, r);
+        for (size_t a = 0; a < j; a++)
+            sum += data[r * k + (i + k - position(run, a)) % k];
+    }
     return sum % q;
 }
 
-uint32_t CALL(encode)(uint32_t q, uint32_t k, const uint8_t *table, uint64_t table_len,
+uint32_t CALL(encode)(uint32_t q, uint32_t k, uint32_t b, const uint8_t *table, uint64_t table_len,
                       const uint8_t *data, uint64_t data_len, uint8_t *page, uint64_t page_len)
 {
-    uint32_t number = CALL(check_table)(q, k, table, table_len);
+    uint32_t number = CALL(check_table)(q, k, b, table, table_len);
     if (number != QMTD_OK)
         return number;
-    if (data_len != k || page_len != 2 * (size_t)k)
+    uint32_t n = b * k;
+    if (data_len != n || page_len != n + k)
         return QMTD_BAD_LENGTH;
-    if (!all_below(q, data, k))
+    if (!all_below(q, data, n))
         return QMTD_BAD_SYMBOL;
 
-    for (uint32_t i = 0; i < k; i++) {
+    for (uint32_t i = 0; i < n; i++)
         page[i] = data[i];
-        page[k + i] = (uint8_t)check_sum(q, k, table, table_len / 2, data, i);
-    }
+    for (uint32_t i = 0; i < k; i++)
+        page[n + i] = (uint8_t)check_sum(q, k, b, table, table_len / 2 / b, data, i);
     return QMTD_OK;
 }
 
-static void work_out_syndrome(uint32_t q, uint32_t k, const uint8_t *table, size_t j, const uint8_t *page,
+static void work_out_syndrome(uint32_t q, uint32_t k, uint32_t b, const uint8_t *table, size_t j, const uint8_t *page,
                               uint8_t *syndrome)
 {
     for (uint32_t i = 0; i < k; i++)
-        syndrome[i] = (uint8_t)((check_sum(q, k, table, j, page, i) + q - page[k + i]) % q);
+        syndrome[i] = (uint8_t)((check_sum(q, k, b, table, j, page, i) + q - page[b * k + i]) % q);
 }
 
-uint32_t CALL(syndrome)(uint32_t q, uint32_t k, const uint8_t *table, uint64_t table_len,
+uint32_t CALL(syndrome)(uint32_t q, uint32_t k, uint32_t b, const uint8_t *table, uint64_t table_len,
                         const uint8_t *page, uint64_t page_len, uint8_t *syndrome, uint64_t syndrome_len)
 {
-    uint32_t number = CALL(check_table)(q, k, table, table_len);
+    uint32_t number = CALL(check_table)(q, k, b, table, table_len);
     if (number != QMTD_OK)
         return number;
-    if (page_len != 2 * (size_t)k || syndrome_len != k)
+    if (page_len != (b + 1) * k || syndrome_len != k)
         return QMTD_BAD_LENGTH;
     if (!all_below(q, page, page_len))
         return QMTD_BAD_SYMBOL;
 
-    work_out_syndrome(q, k, table, table_len / 2, page, syndrome);
+    work_out_syndrome(q, k, b, table, table_len / 2 / b, page, syndrome);
     return QMTD_OK;
 }
 
@@ -122,13 +141,13 @@ static uint32_t votes(const uint8_t *estimates, size_t n, uint8_t value)
     return count;
 }
 
-/* The J + 1 estimates of a data symbol. */
-static void collect(uint32_t k, const uint8_t *table, size_t j, uint32_t symbol, const uint8_t *syndrome,
+/* The J + 1 estimates of a data symbol of a branch, by the branch's run and its part of the difference. */
+static void collect(uint32_t k, const uint8_t *run, size_t j, uint32_t symbol, const uint8_t *syndrome,
                     const uint8_t *difference, uint8_t *estimates)
 {
     estimates[0] = difference[symbol];
     for (size_t a = 0; a < j; a++)
-        estimates[a + 1] = syndrome[(symbol + position(table, a)) % k];
+        estimates[a + 1] = syndrome[(symbol + position(run, a)) % k];
 }
 
 /* The largest count of a value other than the one given, 0 if there is none. */
@@ -144,12 +163,12 @@ static uint32_t most_of_others(const uint8_t *estimates, size_t n, uint8_t value
     return most;
 }
 
-/* Visits one data symbol. Was it a change? */
-static int visit(uint32_t q, uint32_t k, const uint8_t *table, size_t j, uint32_t symbol, uint32_t threshold,
+/* Visits one data symbol of a branch; result and difference are the branch's. Was it a change? */
+static int visit(uint32_t q, uint32_t k, const uint8_t *run, size_t j, uint32_t symbol, uint32_t threshold,
                  uint8_t *result, uint8_t *syndrome, uint8_t *difference)
 {
     uint8_t estimates[QMTD_MAX_J + 1];
-    collect(k, table, j, symbol, syndrome, difference, estimates);
+    collect(k, run, j, symbol, syndrome, difference, estimates);
 
     uint8_t leader = 0;
     uint32_t lead = 0;
@@ -165,7 +184,7 @@ static int visit(uint32_t q, uint32_t k, const uint8_t *table, size_t j, uint32_
     result[symbol] = (uint8_t)((result[symbol] + q - leader) % q);
     difference[symbol] = (uint8_t)((difference[symbol] + q - leader) % q);
     for (size_t a = 0; a < j; a++) {
-        uint8_t *s = &syndrome[(symbol + position(table, a)) % k];
+        uint8_t *s = &syndrome[(symbol + position(run, a)) % k];
         *s = (uint8_t)((*s + q - leader) % q);
     }
     return 1;
@@ -177,17 +196,18 @@ static void write_number(uint8_t *bytes, uint32_t number)
         bytes[i] = (uint8_t)(number >> 8 * i);
 }
 
-uint32_t CALL(decode)(uint32_t q, uint32_t k, const uint8_t *table, uint64_t table_len,
+uint32_t CALL(decode)(uint32_t q, uint32_t k, uint32_t b, const uint8_t *table, uint64_t table_len,
                       const uint8_t *page, uint64_t page_len, const uint8_t *thresholds, uint64_t thresholds_len,
                       uint8_t *result, uint64_t result_len, uint8_t *syndrome, uint64_t syndrome_len,
                       uint8_t *difference, uint64_t difference_len, uint8_t *margins, uint64_t margins_len,
                       uint8_t *counts, uint64_t counts_len)
 {
-    uint32_t number = CALL(check_table)(q, k, table, table_len);
+    uint32_t number = CALL(check_table)(q, k, b, table, table_len);
     if (number != QMTD_OK)
         return number;
-    if (page_len != 2 * (size_t)k || result_len != k || syndrome_len != k || difference_len != k ||
-        margins_len != 4 * (size_t)k || counts_len != QMTD_COUNTS_LEN)
+    uint32_t n = b * k;
+    if (page_len != n + k || result_len != n || syndrome_len != k || difference_len != n || margins_len != 4 * n ||
+        counts_len != QMTD_COUNTS_LEN)
         return QMTD_BAD_LENGTH;
     if (!all_below(q, page, page_len))
         return QMTD_BAD_SYMBOL;
@@ -196,30 +216,34 @@ uint32_t CALL(decode)(uint32_t q, uint32_t k, const uint8_t *table, uint64_t tab
     if (!all_below(QMTD_MAX_THRESHOLD + 1, thresholds, thresholds_len))
         return QMTD_BAD_THRESHOLD;
 
-    size_t j = table_len / 2;
-    memcpy(result, page, k);
-    memset(difference, 0, k);
-    work_out_syndrome(q, k, table, j, page, syndrome);
+    size_t j = table_len / 2 / b;
+    memcpy(result, page, n);
+    memset(difference, 0, n);
+    work_out_syndrome(q, k, b, table, j, page, syndrome);
     uint32_t start = nonzero(syndrome, k);
 
     uint32_t passes = 0, changes = 0;
     while (passes < thresholds_len) {
         uint32_t before = changes;
-        for (uint32_t symbol = 0; symbol < k; symbol++)
-            changes += (uint32_t)visit(q, k, table, j, symbol, thresholds[passes], result, syndrome, difference);
+        for (uint32_t r = 0; r < b; r++)
+            for (uint32_t symbol = 0; symbol < k; symbol++)
+                changes += (uint32_t)visit(q, k, run_of(table, j, r), j, symbol, thresholds[passes], result + r * k,
+                                           syndrome, difference + r * k);
         passes++;
         if (changes == before)
             break;
     }
 
-    for (uint32_t symbol = 0; symbol < k; symbol++) {
-        uint8_t estimates[QMTD_MAX_J + 1];
-        collect(k, table, j, symbol, syndrome, difference, estimates);
-        write_number(margins + 4 * symbol, votes(estimates, j + 1, 0) - most_of_others(estimates, j + 1, 0));
-    }
+    for (uint32_t r = 0; r < b; r++)
+        for (uint32_t symbol = 0; symbol < k; symbol++) {
+            uint8_t estimates[QMTD_MAX_J + 1];
+            collect(k, run_of(table, j, r), j, symbol, syndrome, difference + r * k, estimates);
+            write_number(margins + 4 * (r * k + symbol),
+                         votes(estimates, j + 1, 0) - most_of_others(estimates, j + 1, 0));
+        }
     write_number(counts, passes);
     write_number(counts + 4, changes);
     write_number(counts + 8, start);
-    write_number(counts + 12, nonzero(syndrome, k) + nonzero(difference, k));
+    write_number(counts + 12, nonzero(syndrome, k) + nonzero(difference, n));
     return QMTD_OK;
 }

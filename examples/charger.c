@@ -7,17 +7,17 @@
 #include <stdio.h>
 #include <string.h>
 
-/* The code: 13 data symbols of any byte value, positions 0, 1, 4, 6. J is 4, so with a first threshold of 0 the data
- * comes back whole from any page with at most 2 symbols replaced: 2 * 2 + 0 <= 4. */
-enum { Q = 256, K = 13, J = 4 };
-static const uint8_t table[QMTD_TABLE_LEN(J)] = {0, 0, 1, 0, 4, 0, 6, 0};
+/* The code: one branch of 13 data symbols of any byte value, positions 0, 1, 4, 6. J is 4, so with a first threshold of
+ * 0 the data comes back whole from any page with at most 2 symbols replaced: 2 * 2 + 0 <= 4. */
+enum { Q = 256, K = 13, B = 1, J = 4 };
+static const uint8_t table[QMTD_TABLE_LEN(B, J)] = {0, 0, 1, 0, 4, 0, 6, 0};
 static const uint8_t thresholds[] = {0, 0, 0};
 
 /* Allowed charging current in ampere at -20, -15, .. 40 degrees. */
 static const uint8_t allowed[K] = {0, 0, 4, 8, 16, 24, 32, 40, 40, 32, 24, 8, 0};
 
 struct decoded {
-    uint8_t limits[K], syndrome[K], difference[K], margins[QMTD_MARGINS_LEN(K)], counts[QMTD_COUNTS_LEN];
+    uint8_t limits[K], syndrome[K], difference[K], margins[QMTD_MARGINS_LEN(K, B)], counts[QMTD_COUNTS_LEN];
 };
 
 static unsigned count(const struct decoded *d, int which)
@@ -28,7 +28,7 @@ static unsigned count(const struct decoded *d, int which)
 
 static uint32_t decode(const uint8_t *page, size_t page_len, struct decoded *d)
 {
-    return qmtd_decode(Q, K, table, sizeof table, page, page_len, thresholds, sizeof thresholds, d->limits, K,
+    return qmtd_decode(Q, K, B, table, sizeof table, page, page_len, thresholds, sizeof thresholds, d->limits, K,
                        d->syndrome, K, d->difference, K, d->margins, sizeof d->margins, d->counts, sizeof d->counts);
 }
 
@@ -47,14 +47,14 @@ static void relay(const uint8_t *limits, int degrees, unsigned ampere)
 
 int main(void)
 {
-    uint8_t page[QMTD_PAGE_LEN(K)], received[sizeof page];
+    uint8_t page[QMTD_PAGE_LEN(K, B)], received[sizeof page];
     struct decoded d;
 
     if (qmtd_version() != QMTD_VERSION_NUMBER)
         return 1;
 
     puts("The pack encodes its limits:");
-    if (qmtd_encode(Q, K, table, sizeof table, allowed, K, page, sizeof page) != QMTD_OK)
+    if (qmtd_encode(Q, K, B, table, sizeof table, allowed, K, page, sizeof page) != QMTD_OK)
         return 1;
     for (int i = 0; i < 2 * K; i++)
         printf("%s%4d", i == 0 ? "  data  " : i == K ? "\n  checks" : "", page[i]);

@@ -11,13 +11,13 @@
 #include <stdlib.h>
 #include <unistd.h>
 
-/* 256 data symbols of any byte value, positions 0, 1, 3, 7. */
-enum { Q = 256, K = 256, J = 4, ROWS = 16, COLUMNS = 16 };
-static const uint8_t table[QMTD_TABLE_LEN(J)] = {0, 0, 1, 0, 3, 0, 7, 0};
+/* One branch of 256 data symbols of any byte value, positions 0, 1, 3, 7. */
+enum { Q = 256, K = 256, B = 1, J = 4, ROWS = 16, COLUMNS = 16 };
+static const uint8_t table[QMTD_TABLE_LEN(B, J)] = {0, 0, 1, 0, 3, 0, 7, 0};
 static const uint8_t thresholds[] = {1, 0, 0, 0, 0, 0, 0, 0};
 
-static uint8_t sent[K], page[QMTD_PAGE_LEN(K)];
-static uint8_t result[K], syndrome[K], difference[K], margins[QMTD_MARGINS_LEN(K)], counts[QMTD_COUNTS_LEN];
+static uint8_t sent[K], page[QMTD_PAGE_LEN(K, B)];
+static uint8_t result[K], syndrome[K], difference[K], margins[QMTD_MARGINS_LEN(K, B)], counts[QMTD_COUNTS_LEN];
 
 /* How a symbol stands: firm where its margin is above J/2, weak where another value has at least as many votes as 0. */
 enum standing { FIRM, DOUBTFUL, WEAK, STANDINGS };
@@ -125,10 +125,10 @@ int main(int argc, char **argv)
         return 2;
     }
     make_data();
-    if (qmtd_encode(Q, K, table, sizeof table, sent, K, page, sizeof page) != QMTD_OK)
+    if (qmtd_encode(Q, K, B, table, sizeof table, sent, K, page, sizeof page) != QMTD_OK)
         return 1;
     damage((unsigned)replaced);
-    if (qmtd_decode(Q, K, table, sizeof table, page, sizeof page, thresholds, sizeof thresholds, result, K,
+    if (qmtd_decode(Q, K, B, table, sizeof table, page, sizeof page, thresholds, sizeof thresholds, result, K,
                     syndrome, K, difference, K, margins, sizeof margins, counts, sizeof counts) != QMTD_OK)
         return 1;
 

@@ -1,6 +1,7 @@
 /* qmtd.h - a page code for small tables sent over a noisy lead, and its threshold decoder.
  *
- * WHAT IT DOES. A page is k data symbols followed by k check symbols, each a byte from 0 to q - 1. The library
+ * WHAT IT DOES. A page is b branches of k data symbols each, then k check symbols for all of them; a symbol is a byte
+ * from 0 to q - 1. With b = 1 half of the page is data, with b = 8 eight ninths. The library
  *   - checks a code table               qmtd_check_table
  *   - encodes data into a page          qmtd_encode
  *   - works out a page's syndrome       qmtd_syndrome
@@ -16,13 +17,17 @@
  *
  * Beyond that bound every change brings the answer nearer to the received page, but not always to what was sent.
  *
- * THE CODE. All sums are taken modulo q. The code table is a list of J positions. Check i is the sum of the data
- * symbols (i - p) mod k over all positions p; so data symbol j is in the checks (j + p) mod k and in no others. The
- * table is self-orthogonal when any two different data symbols have at most one check in common; only such tables are
- * taken. Example: k = 13 with positions 0, 1, 4, 6.
+ * THE CODE. All sums are taken modulo q. The b * k data symbols are numbered through: symbol i of branch r has the
+ * number r * k + i. The code table is b runs of J positions, one run for each branch, one after the other. Check i is
+ * the sum of the data symbols r * k + ((i - p) mod k) over all branches r and all positions p of run r; so data symbol
+ * r * k + i is in the checks (i + p) mod k, for the J positions p of run r, and in no others. The table is
+ * self-orthogonal when any two different data symbols, of one branch or of two, have at most one check in common; only
+ * such tables are taken. Equally: the differences (a - c) mod k of all ordered pairs of different positions a, c of one
+ * run, over all runs together, are different. Examples with k = 13: b = 1 with positions 0, 1, 4, 6, so J = 4; b = 2
+ * with runs 0, 1, 4 and 0, 2, 7, so J = 3.
  *
  * RULES FOR ALL CALLS
- *   - Refusals are tested in the order of their numbers, and the first that applies is returned.
+ *   - Refusals are tested in the order 1, 2, 10, 3, 4, .. 9, and the first that applies is returned.
  *   - A refused call changes no byte of the memory lent to it.
  *   - What is const is only read. What is lent for an answer is written whole when the call returns QMTD_OK; what it
  *     held before does not matter.
@@ -54,7 +59,7 @@ extern "C" {
 /* ---- Version ---- */
 
 #define QMTD_VERSION_MAJOR 0
-#define QMTD_VERSION_MINOR 2
+#define QMTD_VERSION_MINOR 3
 #define QMTD_VERSION_PATCH 0
 #define QMTD_VERSION_NUMBER (QMTD_VERSION_MAJOR * 10000 + QMTD_VERSION_MINOR * 100 + QMTD_VERSION_PATCH)
 
@@ -62,9 +67,12 @@ extern "C" {
 
 #define QMTD_MIN_Q 3            /* alphabet size */
 #define QMTD_MAX_Q 256
-#define QMTD_MIN_K 1            /* data symbols, and check symbols, of a page */
+#define QMTD_MIN_K 1            /* data symbols of a branch, and check symbols of a page */
 #define QMTD_MAX_K 4096
-#define QMTD_MIN_J 1            /* positions in a table */
+#define QMTD_MIN_B 1            /* branches */
+#define QMTD_MAX_B 8
+#define QMTD_MAX_DATA 4096      /* data symbols of a page, b * k */
+#define QMTD_MIN_J 1            /* positions in a run of a table */
 #define QMTD_MAX_J 32
 #define QMTD_MIN_THRESHOLDS 1   /* thresholds in a list, one a pass */
 #define QMTD_MAX_THRESHOLDS 64
@@ -72,19 +80,23 @@ extern "C" {
 
 /* ---- Lengths in bytes ---- */
 
-#define QMTD_TABLE_LEN(j) (2 * (j))   /* a table of j positions */
-#define QMTD_PAGE_LEN(k) (2 * (k))    /* a page; data, result, syndrome and difference are k bytes each */
-#define QMTD_MARGIN_LEN 4             /* a margin */
-#define QMTD_MARGINS_LEN(k) (4 * (k)) /* the margins of a decode, one for each data symbol */
-#define QMTD_COUNTS_LEN 16            /* the counts of a decode */
+#define QMTD_TABLE_LEN(b, j) (2 * (b) * (j))   /* a table of b runs of j positions */
+#define QMTD_DATA_LEN(k, b) ((b) * (k))        /* data, result and difference; a syndrome is k bytes */
+#define QMTD_PAGE_LEN(k, b) (((b) + 1) * (k))  /* a page */
+#define QMTD_MARGIN_LEN 4                      /* a margin */
+#define QMTD_MARGINS_LEN(k, b) (4 * (b) * (k)) /* the margins of a decode, one for each data symbol */
+#define QMTD_COUNTS_LEN 16                     /* the counts of a decode */
+#define QMTD_MAX_TABLE_LEN QMTD_TABLE_LEN(QMTD_MAX_B, QMTD_MAX_J) /* the longest table */
+#define QMTD_MAX_PAGE_LEN (QMTD_MAX_DATA + QMTD_MAX_K)            /* the longest page */
 
-/* ---- Returned numbers ---- */
+/* ---- Returned numbers, in the order in which they are tested ---- */
 
 #define QMTD_OK 0                  /* done */
 #define QMTD_BAD_Q 1               /* q outside 3 to 256 */
 #define QMTD_BAD_K 2               /* k outside 1 to 4,096 */
-#define QMTD_BAD_J 3               /* J outside 1 to 32, or an odd table length */
-#define QMTD_BAD_POSITION 4        /* a position is k or more, or not above the one before it */
+#define QMTD_BAD_BRANCHES 10       /* b outside 1 to 8, or b * k above 4,096; tested after 2 and before 3 */
+#define QMTD_BAD_J 3               /* not b runs of equal length J, J from 1 to 32, or an odd table length */
+#define QMTD_BAD_POSITION 4        /* a position is k or more, or not above the one before it in its run */
 #define QMTD_NOT_SELF_ORTHOGONAL 5 /* two data symbols have more than one check in common */
 #define QMTD_BAD_LENGTH 6          /* a lent buffer is not exactly as long as the call needs */
 #define QMTD_BAD_SYMBOL 7          /* a symbol of the input is q or more (never at q = 256) */
@@ -104,42 +116,43 @@ extern "C" {
 uint32_t qmtd_version(void);
 
 /* Checks a code table.
- *   table       J positions, strictly ascending, each below k; two bytes a position, low byte first
- *   table_len   2 * J
- * Writes nothing. Returns QMTD_OK, or 1 to 5. The other calls make the same checks first. */
+ *   table       b runs of J positions, one after the other, each run strictly ascending, each position below k; two
+ *               bytes a position, low byte first
+ *   table_len   2 * b * J
+ * Writes nothing. Returns QMTD_OK, or 1, 2, 10, 3, 4 or 5. The other calls make the same checks first. */
 QMTD_MUST_USE
-uint32_t qmtd_check_table(uint32_t q, uint32_t k, const uint8_t *table, uint64_t table_len);
+uint32_t qmtd_check_table(uint32_t q, uint32_t k, uint32_t b, const uint8_t *table, uint64_t table_len);
 
 /* Encodes data into a page.
- *   data        read: k symbols
- *   page        written whole: the k data symbols, then the k check symbols
- * Returns QMTD_OK, or 1 to 7; refused, page is left as it was. */
+ *   data        read: b * k symbols, branch 0 whole, branch 1 whole, ..
+ *   page        written whole: (b + 1) * k symbols, the data, then the k check symbols
+ * Returns QMTD_OK, or 1 to 7 or 10; refused, page is left as it was. */
 QMTD_MUST_USE
-uint32_t qmtd_encode(uint32_t q, uint32_t k, const uint8_t *table, uint64_t table_len,
+uint32_t qmtd_encode(uint32_t q, uint32_t k, uint32_t b, const uint8_t *table, uint64_t table_len,
                      const uint8_t *data, uint64_t data_len,
                      uint8_t *page, uint64_t page_len);
 
 /* Works out the syndrome of a received page.
- *   page        read: 2 * k symbols
+ *   page        read: (b + 1) * k symbols
  *   syndrome    written whole: k symbols; symbol i is the sum of the received data symbols in check i, minus the
  *               received check symbol i. All are 0 exactly when the page is a code word.
- * Returns QMTD_OK, or 1 to 7; refused, syndrome is left as it was. */
+ * Returns QMTD_OK, or 1 to 7 or 10; refused, syndrome is left as it was. */
 QMTD_MUST_USE
-uint32_t qmtd_syndrome(uint32_t q, uint32_t k, const uint8_t *table, uint64_t table_len,
+uint32_t qmtd_syndrome(uint32_t q, uint32_t k, uint32_t b, const uint8_t *table, uint64_t table_len,
                        const uint8_t *page, uint64_t page_len,
                        uint8_t *syndrome, uint64_t syndrome_len);
 
 /* Decodes a received page.
- * A pass visits data symbols 0 to k - 1 with one threshold T. A visit to j collects J + 1 estimates: the difference at
- * j and the syndrome at each check of j. When the commonest value is not 0 and leads the next by more than T votes, it
- * is subtracted from the result at j, from the difference at j and from the syndrome at each check of j: a change.
+ * A pass visits data symbols 0 to b * k - 1 with one threshold T. A visit to j collects J + 1 estimates: the difference
+ * at j and the syndrome at each check of j. When the commonest value is not 0 and leads the next by more than T votes,
+ * it is subtracted from the result at j, from the difference at j and from the syndrome at each check of j: a change.
  * Decoding stops after the first pass without a change, or when the thresholds are used up.
- *   page        read: 2 * k symbols
+ *   page        read: (b + 1) * k symbols
  *   thresholds  read: 1 to 64 thresholds of one byte each, from 0 to 32, one a pass in this order
- *   result      written whole: k symbols, the decoded data
+ *   result      written whole: b * k symbols, the decoded data
  *   syndrome    written whole: k symbols, the syndrome as the last visit left it
- *   difference  written whole: k symbols, result minus received data
- *   margins     written whole: 4 * k bytes, a signed 32-bit number for each data symbol, two's complement, low byte
+ *   difference  written whole: b * k symbols, result minus received data
+ *   margins     written whole: 4 * b * k bytes, a signed 32-bit number for each data symbol, two's complement, low byte
  *               first; qmtd_margin below reads one. The margin of data symbol j is the number of zeros among its J + 1
  *               estimates, from the syndrome and the difference handed back, minus the largest count of any one other
  *               value, 0 if there is none: how firmly the symbol stands in the result. It is from -(J + 1) to J + 1.
@@ -153,11 +166,11 @@ uint32_t qmtd_syndrome(uint32_t q, uint32_t k, const uint8_t *table, uint64_t ta
  *                 bytes  4 to  7  changes
  *                 bytes  8 to 11  distance at the start
  *                 bytes 12 to 15  distance at the end
- *               A distance is the number of places, of 2 * k, where the page encoded from the result as it then stands
- *               differs from the received page.
- * Returns QMTD_OK, or 1 to 9; refused, result, syndrome, difference, margins and counts are left as they were. */
+ *               A distance is the number of places, of (b + 1) * k, where the page encoded from the result as it then
+ *               stands differs from the received page.
+ * Returns QMTD_OK, or 1 to 10; refused, result, syndrome, difference, margins and counts are left as they were. */
 QMTD_MUST_USE
-uint32_t qmtd_decode(uint32_t q, uint32_t k, const uint8_t *table, uint64_t table_len,
+uint32_t qmtd_decode(uint32_t q, uint32_t k, uint32_t b, const uint8_t *table, uint64_t table_len,
                      const uint8_t *page, uint64_t page_len,
                      const uint8_t *thresholds, uint64_t thresholds_len,
                      uint8_t *result, uint64_t result_len,

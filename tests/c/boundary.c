@@ -1,6 +1,6 @@
 /* boundary.c - what the reference pages cannot hold: null pointers, the length of the counts, names in the header, the
- * reading of a margin, unaligned memory, and the promise that data comes back from a page with few enough symbols
- * replaced. */
+ * reading of a margin, every length of a table with every b, unaligned memory, and the promise that data comes back
+ * from a page with few enough symbols replaced. */
 #include "qmtd.h"
 
 #include <stdio.h>
@@ -19,11 +19,17 @@ static int failures;
 
 /* Code A of document 01. */
 enum { K = 13, J = 4 };
-static const uint8_t table_a[QMTD_TABLE_LEN(J)] = {0, 0, 1, 0, 4, 0, 6, 0};
+static const uint8_t table_a[QMTD_TABLE_LEN(1, J)] = {0, 0, 1, 0, 4, 0, 6, 0};
+
+/* Two branches with k = 13 and three with k = 40. */
+static const uint8_t table_2[QMTD_TABLE_LEN(2, 3)] = {0, 0, 1, 0, 4, 0, 0, 0, 2, 0, 7, 0};
+static const uint8_t table_3[QMTD_TABLE_LEN(3, 4)] = {0, 0, 1, 0, 4, 0, 13, 0,
+                                                      0, 0, 2, 0, 17, 0, 24, 0,
+                                                      0, 0, 5, 0, 26, 0, 34, 0};
 
 /* All that a decode takes, in memory of exactly the right length; the calls below pass parts of it. */
-static uint8_t data[K], page[QMTD_PAGE_LEN(K)], thresholds[2];
-static uint8_t result[K], syndrome[K], difference[K], margins[QMTD_MARGINS_LEN(K)], counts[QMTD_COUNTS_LEN];
+static uint8_t data[K], page[QMTD_PAGE_LEN(K, 1)], thresholds[2];
+static uint8_t result[K], syndrome[K], difference[K], margins[QMTD_MARGINS_LEN(K, 1)], counts[QMTD_COUNTS_LEN];
 
 /* Data and page all 0, thresholds 0, 0; every lent answer full of 0xEE. */
 static void prepare(void)
@@ -57,7 +63,7 @@ static int answers_untouched(void)
 static uint32_t decode(const uint8_t *table, size_t table_len, size_t page_len,
                        const uint8_t *list, size_t list_len, size_t counts_len)
 {
-    return qmtd_decode(5, K, table, table_len, page, page_len, list, list_len, result, sizeof result,
+    return qmtd_decode(5, K, 1, table, table_len, page, page_len, list, list_len, result, sizeof result,
                        syndrome, sizeof syndrome, difference, sizeof difference, margins, sizeof margins,
                        counts, counts_len);
 }
@@ -79,41 +85,42 @@ static void null_with_length_0(void)
     const size_t n = sizeof table_a;
     prepare();
 
-    EXPECT(qmtd_check_table(5, K, NULL, 0) == QMTD_BAD_J);
+    EXPECT(qmtd_check_table(5, K, 1, NULL, 0) == QMTD_BAD_J);
 
-    EXPECT(qmtd_encode(5, K, NULL, 0, data, K, page, 2 * K) == QMTD_BAD_J);
-    EXPECT(qmtd_encode(5, K, t, n, NULL, 0, page, 2 * K) == QMTD_BAD_LENGTH);
-    EXPECT(qmtd_encode(5, K, t, n, data, K, NULL, 0) == QMTD_BAD_LENGTH);
-    EXPECT(qmtd_encode(5, K, t, n, NULL, 0, NULL, 0) == QMTD_BAD_LENGTH);
-    EXPECT(qmtd_encode(5, 0, t, n, NULL, 0, NULL, 0) == QMTD_BAD_K);
-    EXPECT(qmtd_encode(0, 0, NULL, 0, NULL, 0, NULL, 0) == QMTD_BAD_Q);
+    EXPECT(qmtd_encode(5, K, 1, NULL, 0, data, K, page, 2 * K) == QMTD_BAD_J);
+    EXPECT(qmtd_encode(5, K, 1, t, n, NULL, 0, page, 2 * K) == QMTD_BAD_LENGTH);
+    EXPECT(qmtd_encode(5, K, 1, t, n, data, K, NULL, 0) == QMTD_BAD_LENGTH);
+    EXPECT(qmtd_encode(5, K, 1, t, n, NULL, 0, NULL, 0) == QMTD_BAD_LENGTH);
+    EXPECT(qmtd_encode(5, 0, 1, t, n, NULL, 0, NULL, 0) == QMTD_BAD_K);
+    EXPECT(qmtd_encode(0, 0, 1, NULL, 0, NULL, 0, NULL, 0) == QMTD_BAD_Q);
 
-    EXPECT(qmtd_syndrome(5, K, NULL, 0, page, 2 * K, syndrome, K) == QMTD_BAD_J);
-    EXPECT(qmtd_syndrome(5, K, t, n, NULL, 0, syndrome, K) == QMTD_BAD_LENGTH);
-    EXPECT(qmtd_syndrome(5, K, t, n, page, 2 * K, NULL, 0) == QMTD_BAD_LENGTH);
-    EXPECT(qmtd_syndrome(5, K, t, n, NULL, 0, NULL, 0) == QMTD_BAD_LENGTH);
-    EXPECT(qmtd_syndrome(5, 0, t, n, NULL, 0, NULL, 0) == QMTD_BAD_K);
-    EXPECT(qmtd_syndrome(0, 0, NULL, 0, NULL, 0, NULL, 0) == QMTD_BAD_Q);
+    EXPECT(qmtd_syndrome(5, K, 1, NULL, 0, page, 2 * K, syndrome, K) == QMTD_BAD_J);
+    EXPECT(qmtd_syndrome(5, K, 1, t, n, NULL, 0, syndrome, K) == QMTD_BAD_LENGTH);
+    EXPECT(qmtd_syndrome(5, K, 1, t, n, page, 2 * K, NULL, 0) == QMTD_BAD_LENGTH);
+    EXPECT(qmtd_syndrome(5, K, 1, t, n, NULL, 0, NULL, 0) == QMTD_BAD_LENGTH);
+    EXPECT(qmtd_syndrome(5, 0, 1, t, n, NULL, 0, NULL, 0) == QMTD_BAD_K);
+    EXPECT(qmtd_syndrome(0, 0, 1, NULL, 0, NULL, 0, NULL, 0) == QMTD_BAD_Q);
 
-    EXPECT(qmtd_decode(5, K, NULL, 0, page, 2 * K, thresholds, 2, result, K, syndrome, K, difference, K, margins, 4 * K,
-                       counts, 16) == QMTD_BAD_J);
-    EXPECT(qmtd_decode(5, K, t, n, NULL, 0, thresholds, 2, result, K, syndrome, K, difference, K, margins, 4 * K,
+    EXPECT(qmtd_decode(5, K, 1, NULL, 0, page, 2 * K, thresholds, 2, result, K, syndrome, K, difference, K,
+                       margins, 4 * K, counts, 16) == QMTD_BAD_J);
+    EXPECT(qmtd_decode(5, K, 1, t, n, NULL, 0, thresholds, 2, result, K, syndrome, K, difference, K, margins, 4 * K,
                        counts, 16) == QMTD_BAD_LENGTH);
-    EXPECT(qmtd_decode(5, K, t, n, page, 2 * K, NULL, 0, result, K, syndrome, K, difference, K, margins, 4 * K,
+    EXPECT(qmtd_decode(5, K, 1, t, n, page, 2 * K, NULL, 0, result, K, syndrome, K, difference, K, margins, 4 * K,
                        counts, 16) == QMTD_BAD_THRESHOLD_COUNT);
-    EXPECT(qmtd_decode(5, K, t, n, page, 2 * K, thresholds, 2, NULL, 0, syndrome, K, difference, K, margins, 4 * K,
+    EXPECT(qmtd_decode(5, K, 1, t, n, page, 2 * K, thresholds, 2, NULL, 0, syndrome, K, difference, K, margins, 4 * K,
                        counts, 16) == QMTD_BAD_LENGTH);
-    EXPECT(qmtd_decode(5, K, t, n, page, 2 * K, thresholds, 2, result, K, NULL, 0, difference, K, margins, 4 * K,
+    EXPECT(qmtd_decode(5, K, 1, t, n, page, 2 * K, thresholds, 2, result, K, NULL, 0, difference, K, margins, 4 * K,
                        counts, 16) == QMTD_BAD_LENGTH);
-    EXPECT(qmtd_decode(5, K, t, n, page, 2 * K, thresholds, 2, result, K, syndrome, K, NULL, 0, margins, 4 * K,
+    EXPECT(qmtd_decode(5, K, 1, t, n, page, 2 * K, thresholds, 2, result, K, syndrome, K, NULL, 0, margins, 4 * K,
                        counts, 16) == QMTD_BAD_LENGTH);
-    EXPECT(qmtd_decode(5, K, t, n, page, 2 * K, thresholds, 2, result, K, syndrome, K, difference, K, NULL, 0,
+    EXPECT(qmtd_decode(5, K, 1, t, n, page, 2 * K, thresholds, 2, result, K, syndrome, K, difference, K, NULL, 0,
                        counts, 16) == QMTD_BAD_LENGTH);
-    EXPECT(qmtd_decode(5, K, t, n, page, 2 * K, thresholds, 2, result, K, syndrome, K, difference, K, margins, 4 * K,
+    EXPECT(qmtd_decode(5, K, 1, t, n, page, 2 * K, thresholds, 2, result, K, syndrome, K, difference, K, margins, 4 * K,
                        NULL, 0) == QMTD_BAD_LENGTH);
-    EXPECT(qmtd_decode(5, K, t, n, NULL, 0, NULL, 0, NULL, 0, NULL, 0, NULL, 0, NULL, 0, NULL, 0) == QMTD_BAD_LENGTH);
-    EXPECT(qmtd_decode(5, 0, t, n, NULL, 0, NULL, 0, NULL, 0, NULL, 0, NULL, 0, NULL, 0, NULL, 0) == QMTD_BAD_K);
-    EXPECT(qmtd_decode(0, 0, NULL, 0, NULL, 0, NULL, 0, NULL, 0, NULL, 0, NULL, 0, NULL, 0, NULL, 0) == QMTD_BAD_Q);
+    EXPECT(qmtd_decode(5, K, 1, t, n, NULL, 0, NULL, 0, NULL, 0, NULL, 0, NULL, 0, NULL, 0, NULL, 0) ==
+           QMTD_BAD_LENGTH);
+    EXPECT(qmtd_decode(5, 0, 1, t, n, NULL, 0, NULL, 0, NULL, 0, NULL, 0, NULL, 0, NULL, 0, NULL, 0) == QMTD_BAD_K);
+    EXPECT(qmtd_decode(0, 0, 1, NULL, 0, NULL, 0, NULL, 0, NULL, 0, NULL, 0, NULL, 0, NULL, 0, NULL, 0) == QMTD_BAD_Q);
 
     EXPECT(answers_untouched() && all(page, sizeof page, 0));
 }
@@ -131,7 +138,7 @@ static void counts_length(void)
             abort();
         memset(block, 0xEE, len + 1);
         prepare();
-        EXPECT(qmtd_decode(5, K, table_a, sizeof table_a, page, sizeof page, thresholds, 2, result, K, syndrome, K,
+        EXPECT(qmtd_decode(5, K, 1, table_a, sizeof table_a, page, sizeof page, thresholds, 2, result, K, syndrome, K,
                            difference, K, margins, sizeof margins, block, len) == QMTD_BAD_LENGTH);
         EXPECT(all(block, len + 1, 0xEE));
         free(block);
@@ -142,7 +149,7 @@ static void counts_length(void)
     EXPECT(decode(table_a, sizeof table_a, sizeof page, list, 0, 15) == QMTD_BAD_LENGTH);
     EXPECT(decode(table_a, sizeof table_a, sizeof page, list, 65, 15) == QMTD_BAD_LENGTH);
     EXPECT(decode(table_a, sizeof table_a, sizeof page, list, 1, 15) == QMTD_BAD_LENGTH);
-    EXPECT(qmtd_decode(5, K, table_a, sizeof table_a, page, sizeof page, thresholds, 2, result, K, syndrome, K,
+    EXPECT(qmtd_decode(5, K, 1, table_a, sizeof table_a, page, sizeof page, thresholds, 2, result, K, syndrome, K,
                        difference, K, margins, sizeof margins - 1, counts, 15) == QMTD_BAD_LENGTH);
     page[3] = 5;
     EXPECT(decode(table_a, sizeof table_a, sizeof page, thresholds, 2, 15) == QMTD_BAD_LENGTH);
@@ -155,13 +162,13 @@ static void odd_table(void)
     static const uint8_t long_table[67] = {0};
     prepare();
     for (size_t len = 1; len < sizeof long_table; len += 2) {
-        EXPECT(qmtd_check_table(5, K, long_table, len) == QMTD_BAD_J);
+        EXPECT(qmtd_check_table(5, K, 1, long_table, len) == QMTD_BAD_J);
         EXPECT(decode(long_table, len, sizeof page, thresholds, 2, sizeof counts) == QMTD_BAD_J);
     }
-    EXPECT(qmtd_check_table(QMTD_MIN_Q - 1, K, table_a, 7) == QMTD_BAD_Q);
-    EXPECT(qmtd_check_table(5, QMTD_MAX_K + 1, table_a, 7) == QMTD_BAD_K);
-    EXPECT(qmtd_encode(5, K, table_a, 7, data, 0, page, 0) == QMTD_BAD_J);
-    EXPECT(qmtd_syndrome(5, K, table_a, 7, page, 0, syndrome, 0) == QMTD_BAD_J);
+    EXPECT(qmtd_check_table(QMTD_MIN_Q - 1, K, 1, table_a, 7) == QMTD_BAD_Q);
+    EXPECT(qmtd_check_table(5, QMTD_MAX_K + 1, 1, table_a, 7) == QMTD_BAD_K);
+    EXPECT(qmtd_encode(5, K, 1, table_a, 7, data, 0, page, 0) == QMTD_BAD_J);
+    EXPECT(qmtd_syndrome(5, K, 1, table_a, 7, page, 0, syndrome, 0) == QMTD_BAD_J);
     EXPECT(answers_untouched());
 }
 
@@ -169,21 +176,21 @@ static void odd_table(void)
 static void names(void)
 {
     static const uint8_t descending[] = {0, 0, 1, 0, 6, 0, 4, 0}, not_orthogonal[] = {0, 0, 1, 0, 2, 0};
-    static const uint8_t zeros[QMTD_TABLE_LEN(QMTD_MAX_J + 1)] = {0};
+    static const uint8_t zeros[QMTD_TABLE_LEN(1, QMTD_MAX_J + 1)] = {0};
     const size_t n = sizeof table_a;
     uint8_t list[QMTD_MAX_THRESHOLDS + 1] = {0};
     prepare();
 
-    EXPECT(QMTD_BAD_Q == 1 && qmtd_check_table(QMTD_MIN_Q - 1, K, table_a, n) == QMTD_BAD_Q);
-    EXPECT(qmtd_check_table(QMTD_MAX_Q + 1, K, table_a, n) == QMTD_BAD_Q);
-    EXPECT(QMTD_BAD_K == 2 && qmtd_check_table(5, QMTD_MIN_K - 1, table_a, n) == QMTD_BAD_K);
-    EXPECT(qmtd_check_table(5, QMTD_MAX_K + 1, table_a, n) == QMTD_BAD_K);
-    EXPECT(QMTD_BAD_J == 3 && qmtd_check_table(5, K, zeros, QMTD_TABLE_LEN(QMTD_MIN_J - 1)) == QMTD_BAD_J);
-    EXPECT(qmtd_check_table(5, K, zeros, QMTD_TABLE_LEN(QMTD_MAX_J + 1)) == QMTD_BAD_J);
-    EXPECT(qmtd_check_table(5, K, zeros, QMTD_TABLE_LEN(QMTD_MAX_J)) == QMTD_BAD_POSITION);
-    EXPECT(QMTD_BAD_POSITION == 4 && qmtd_check_table(5, K, descending, sizeof descending) == QMTD_BAD_POSITION);
+    EXPECT(QMTD_BAD_Q == 1 && qmtd_check_table(QMTD_MIN_Q - 1, K, 1, table_a, n) == QMTD_BAD_Q);
+    EXPECT(qmtd_check_table(QMTD_MAX_Q + 1, K, 1, table_a, n) == QMTD_BAD_Q);
+    EXPECT(QMTD_BAD_K == 2 && qmtd_check_table(5, QMTD_MIN_K - 1, 1, table_a, n) == QMTD_BAD_K);
+    EXPECT(qmtd_check_table(5, QMTD_MAX_K + 1, 1, table_a, n) == QMTD_BAD_K);
+    EXPECT(QMTD_BAD_J == 3 && qmtd_check_table(5, K, 1, zeros, QMTD_TABLE_LEN(1, QMTD_MIN_J - 1)) == QMTD_BAD_J);
+    EXPECT(qmtd_check_table(5, K, 1, zeros, QMTD_TABLE_LEN(1, QMTD_MAX_J + 1)) == QMTD_BAD_J);
+    EXPECT(qmtd_check_table(5, K, 1, zeros, QMTD_TABLE_LEN(1, QMTD_MAX_J)) == QMTD_BAD_POSITION);
+    EXPECT(QMTD_BAD_POSITION == 4 && qmtd_check_table(5, K, 1, descending, sizeof descending) == QMTD_BAD_POSITION);
     EXPECT(QMTD_NOT_SELF_ORTHOGONAL == 5 &&
-           qmtd_check_table(5, K, not_orthogonal, sizeof not_orthogonal) == QMTD_NOT_SELF_ORTHOGONAL);
+           qmtd_check_table(5, K, 1, not_orthogonal, sizeof not_orthogonal) == QMTD_NOT_SELF_ORTHOGONAL);
     EXPECT(QMTD_BAD_LENGTH == 6 && decode(table_a, n, sizeof page - 1, list, 1, sizeof counts) == QMTD_BAD_LENGTH);
     page[2 * K - 1] = 5;
     EXPECT(QMTD_BAD_SYMBOL == 7 && decode(table_a, n, sizeof page, list, 1, sizeof counts) == QMTD_BAD_SYMBOL);
@@ -195,10 +202,10 @@ static void names(void)
     EXPECT(QMTD_BAD_THRESHOLD == 9 && decode(table_a, n, sizeof page, list, 1, sizeof counts) == QMTD_BAD_THRESHOLD);
     EXPECT(answers_untouched());
 
-    EXPECT(QMTD_OK == 0 && qmtd_check_table(QMTD_MIN_Q, K, table_a, n) == QMTD_OK);
-    EXPECT(qmtd_check_table(QMTD_MAX_Q, K, table_a, n) == QMTD_OK);
-    EXPECT(qmtd_check_table(5, QMTD_MIN_K, zeros, QMTD_TABLE_LEN(QMTD_MIN_J)) == QMTD_OK);
-    EXPECT(qmtd_check_table(5, QMTD_MAX_K, table_a, n) == QMTD_OK);
+    EXPECT(QMTD_OK == 0 && qmtd_check_table(QMTD_MIN_Q, K, 1, table_a, n) == QMTD_OK);
+    EXPECT(qmtd_check_table(QMTD_MAX_Q, K, 1, table_a, n) == QMTD_OK);
+    EXPECT(qmtd_check_table(5, QMTD_MIN_K, 1, zeros, QMTD_TABLE_LEN(1, QMTD_MIN_J)) == QMTD_OK);
+    EXPECT(qmtd_check_table(5, QMTD_MAX_K, 1, table_a, n) == QMTD_OK);
     list[0] = QMTD_MAX_THRESHOLD;
     EXPECT(decode(table_a, n, sizeof page, list, QMTD_MIN_THRESHOLDS, sizeof counts) == QMTD_OK);
     EXPECT(decode(table_a, n, sizeof page, list, QMTD_MAX_THRESHOLDS, sizeof counts) == QMTD_OK);
@@ -212,7 +219,7 @@ static void margin_bytes(void)
     static const int32_t numbers[] = {33, -33, 0, -1, 67305985, INT32_MAX, INT32_MIN};
     for (size_t i = 0; i < sizeof numbers / sizeof numbers[0]; i++)
         EXPECT(qmtd_margin(bytes, i) == numbers[i]);
-    EXPECT(QMTD_MARGIN_LEN == 4 && sizeof bytes == QMTD_MARGINS_LEN(sizeof numbers / sizeof numbers[0]));
+    EXPECT(QMTD_MARGIN_LEN == 4 && sizeof bytes == QMTD_MARGINS_LEN(sizeof numbers / sizeof numbers[0], 1));
 }
 
 /* Case 9 of document 01 with every piece at every distance from an aligned address. */
@@ -232,8 +239,8 @@ static void unaligned(void)
         memcpy(at[0], table_a, sizeof table_a);
         at[1][0] = 7;
         at[1][1] = 3;
-        EXPECT(qmtd_decode(256, K, at[0], sizeof table_a, at[1], 2 * K, at[2], 2, at[3], K, at[4], K, at[5], K,
-                           at[6], QMTD_MARGINS_LEN(K), at[7], QMTD_COUNTS_LEN) == QMTD_OK);
+        EXPECT(qmtd_decode(256, K, 1, at[0], sizeof table_a, at[1], 2 * K, at[2], 2, at[3], K, at[4], K, at[5], K,
+                           at[6], QMTD_MARGINS_LEN(K, 1), at[7], QMTD_COUNTS_LEN) == QMTD_OK);
         EXPECT(all(at[3], K, 0) && all(at[4], K, 0));
         EXPECT(at[5][0] == 249 && at[5][1] == 253 && all(at[5] + 2, K - 2, 0));
         /* d(0) and d(1) are all that is not 0. */
@@ -241,9 +248,9 @@ static void unaligned(void)
             EXPECT(qmtd_margin(at[6], j) == (j < 2 ? J - 1 : J + 1));
         EXPECT(memcmp(at[7], case_9_counts, sizeof case_9_counts) == 0);
 
-        EXPECT(qmtd_syndrome(256, K, at[0], sizeof table_a, at[1], 2 * K, at[4], K) == QMTD_OK);
+        EXPECT(qmtd_syndrome(256, K, 1, at[0], sizeof table_a, at[1], 2 * K, at[4], K) == QMTD_OK);
         EXPECT(at[4][0] == 7 && at[4][1] == 10 && at[4][2] == 3 && at[4][5] == 3);
-        EXPECT(qmtd_encode(256, K, at[0], sizeof table_a, at[3], K, at[1], 2 * K) == QMTD_OK);
+        EXPECT(qmtd_encode(256, K, 1, at[0], sizeof table_a, at[3], K, at[1], 2 * K) == QMTD_OK);
         EXPECT(all(at[1], 2 * K, 0));
     }
 }
@@ -260,10 +267,11 @@ static uint32_t below(uint32_t n)
 static int32_t margin_of(uint32_t k, const uint8_t *table, uint32_t j, const uint8_t *s, const uint8_t *d,
                          uint32_t symbol)
 {
+    const uint8_t *run = table + 2 * j * (symbol / k);
     int32_t votes[256] = {0}, most = 0;
     votes[d[symbol]]++;
     for (uint32_t a = 0; a < j; a++)
-        votes[s[(symbol + (table[2 * a] | (uint32_t)table[2 * a + 1] << 8)) % k]]++;
+        votes[s[(symbol + (run[2 * a] | (uint32_t)run[2 * a + 1] << 8)) % k]]++;
     for (size_t value = 1; value < 256; value++)
         most = votes[value] > most ? votes[value] : most;
     return votes[0] - most;
@@ -272,38 +280,43 @@ static int32_t margin_of(uint32_t k, const uint8_t *table, uint32_t j, const uin
 /* At most t of a page's symbols replaced, 2 * t + (first threshold) <= J: decode gives the data back, whatever the
  * later thresholds. The distance at the end is that of the page encoded from the result, and the margins are those of
  * the syndrome and the difference handed back. */
-static void recovery_of(uint32_t q, uint32_t k, const uint8_t *table, uint32_t j, int rounds)
+static void recovery_of(uint32_t q, uint32_t k, uint32_t b, const uint8_t *table, uint32_t j, int rounds)
 {
-    static uint8_t sent[QMTD_MAX_K], encoded[2 * QMTD_MAX_K], received[2 * QMTD_MAX_K], again[2 * QMTD_MAX_K];
-    static uint8_t back[QMTD_MAX_K], s[QMTD_MAX_K], d[QMTD_MAX_K], m[QMTD_MARGINS_LEN(QMTD_MAX_K)];
+    static uint8_t sent[QMTD_MAX_DATA], back[QMTD_MAX_DATA], s[QMTD_MAX_K], d[QMTD_MAX_DATA];
+    static uint8_t encoded[QMTD_MAX_PAGE_LEN], received[QMTD_MAX_PAGE_LEN], again[QMTD_MAX_PAGE_LEN];
+    static uint8_t m[QMTD_MARGINS_LEN(QMTD_MAX_DATA, 1)];
+    const uint32_t table_len = QMTD_TABLE_LEN(b, j), n = QMTD_DATA_LEN(k, b), page_len = QMTD_PAGE_LEN(k, b);
     while (rounds-- > 0) {
-        for (uint32_t i = 0; i < k; i++)
+        for (uint32_t i = 0; i < n; i++)
             sent[i] = (uint8_t)below(q);
-        EXPECT(qmtd_encode(q, k, table, 2 * j, sent, k, encoded, 2 * k) == QMTD_OK);
+        EXPECT(qmtd_encode(q, k, b, table, table_len, sent, n, encoded, page_len) == QMTD_OK);
 
         uint8_t list[4];
         list[0] = (uint8_t)below(j + 1);
         for (size_t i = 1; i < sizeof list; i++)
             list[i] = (uint8_t)below(QMTD_MAX_THRESHOLD + 1);
         uint32_t replaced = 0;
-        memcpy(received, encoded, 2 * k);
+        memcpy(received, encoded, page_len);
         for (uint32_t t = (j - list[0]) / 2; t > 0; t--)
-            received[below(2 * k)] = (uint8_t)below(q);
-        for (uint32_t i = 0; i < 2 * k; i++)
+            received[below(page_len)] = (uint8_t)below(q);
+        for (uint32_t i = 0; i < page_len; i++)
             replaced += received[i] != encoded[i];
 
         uint8_t c[QMTD_COUNTS_LEN];
-        EXPECT(qmtd_decode(q, k, table, 2 * j, received, 2 * k, list, 1 + below(sizeof list), back, k, s, k, d, k,
-                           m, 4 * k, c, sizeof c) == QMTD_OK);
-        EXPECT(memcmp(back, sent, k) == 0);
+        EXPECT(qmtd_decode(q, k, b, table, table_len, received, page_len, list, 1 + below(sizeof list), back, n, s, k,
+                           d, n, m, QMTD_MARGINS_LEN(k, b), c, sizeof c) == QMTD_OK);
+        EXPECT(memcmp(back, sent, n) == 0);
         EXPECT(number_at(c + 12) == replaced);
 
         uint32_t nonzero = 0;
-        EXPECT(qmtd_encode(q, k, table, 2 * j, back, k, again, 2 * k) == QMTD_OK);
+        EXPECT(qmtd_encode(q, k, b, table, table_len, back, n, again, page_len) == QMTD_OK);
         for (uint32_t i = 0; i < k; i++) {
-            nonzero += (s[i] != 0) + (d[i] != 0);
+            nonzero += s[i] != 0;
+            EXPECT((received[n + i] + s[i]) % q == again[n + i]);
+        }
+        for (uint32_t i = 0; i < n; i++) {
+            nonzero += d[i] != 0;
             EXPECT((received[i] + d[i]) % q == back[i]);
-            EXPECT((received[k + i] + s[i]) % q == again[k + i]);
             EXPECT(qmtd_margin(m, i) == margin_of(k, table, j, s, d, i));
         }
         EXPECT(nonzero == replaced);
@@ -315,15 +328,74 @@ static void recovery(void)
     static const uint8_t k_7[] = {0, 0, 1, 0, 3, 0};
     static const uint8_t k_57[] = {0, 0, 1, 0, 3, 0, 13, 0, 32, 0, 36, 0, 43, 0, 52, 0};
     static const uint8_t k_4096[] = {0, 0, 1, 0, 6, 0, 10, 0, 23, 0, 26, 0, 34, 0, 41, 0, 53, 0, 55, 0};
-    recovery_of(3, 7, k_7, 3, 50);
-    recovery_of(256, 7, k_7, 3, 50);
-    recovery_of(3, K, table_a, J, 100);
-    recovery_of(10, K, table_a, J, 100);
-    recovery_of(256, K, table_a, J, 100);
-    recovery_of(5, 57, k_57, 8, 100);
-    recovery_of(251, 57, k_57, 8, 100);
-    recovery_of(129, 4096, k_4096, 10, 3);
-    recovery_of(256, 4096, k_4096, 10, 3);
+    static const uint8_t pairs[] = {0, 0, 1, 0, 0, 0, 2, 0, 0, 0, 3, 0, 0, 0, 4, 0,
+                                    0, 0, 5, 0, 0, 0, 6, 0, 0, 0, 7, 0, 0, 0, 8, 0};
+    recovery_of(3, 7, 1, k_7, 3, 50);
+    recovery_of(256, 7, 1, k_7, 3, 50);
+    recovery_of(3, K, 1, table_a, J, 100);
+    recovery_of(10, K, 1, table_a, J, 100);
+    recovery_of(256, K, 1, table_a, J, 100);
+    recovery_of(5, 57, 1, k_57, 8, 100);
+    recovery_of(251, 57, 1, k_57, 8, 100);
+    recovery_of(129, 4096, 1, k_4096, 10, 3);
+    recovery_of(256, 4096, 1, k_4096, 10, 3);
+
+    recovery_of(3, K, 2, table_2, 3, 100);
+    recovery_of(256, K, 2, table_2, 3, 100);
+    recovery_of(5, 40, 3, table_3, 4, 100);
+    recovery_of(251, 40, 3, table_3, 4, 100);
+    for (uint32_t b = QMTD_MIN_B; b <= QMTD_MAX_B; b++) {
+        recovery_of(10, 17, b, pairs, 2, 20);
+        recovery_of(256, QMTD_MAX_DATA / b, b, pairs, 2, 2);
+    }
+}
+
+/* b outside its limits: 10, after 1 and 2 and before all else; nothing is divided by it and no product with k wraps. */
+static void branches(void)
+{
+    static const uint32_t others[] = {0, 9, 10, 255, 256, 257, 65535, 65536, 65537, 0x7FFFFFFF, 0x80000000, 0x80000001,
+                                      0x10000001, 0x00100000, 0x00100001, 0xFFFFFFF8, 0xFFFFFFFE, 0xFFFFFFFF};
+    static const uint8_t zeros[QMTD_MAX_TABLE_LEN + 2] = {0};
+    const size_t n = sizeof table_a;
+    prepare();
+
+    for (size_t i = 0; i < sizeof others / sizeof others[0]; i++) {
+        uint32_t b = others[i];
+        EXPECT(qmtd_check_table(5, K, b, table_a, n) == QMTD_BAD_BRANCHES);
+        EXPECT(qmtd_check_table(5, 16, b, table_a, n) == QMTD_BAD_BRANCHES);
+        EXPECT(qmtd_check_table(5, QMTD_MAX_K, b, table_a, n) == QMTD_BAD_BRANCHES);
+        EXPECT(qmtd_check_table(5, QMTD_MAX_K + 1, b, table_a, n) == QMTD_BAD_K);
+        EXPECT(qmtd_check_table(2, QMTD_MAX_K + 1, b, table_a, n) == QMTD_BAD_Q);
+        EXPECT(qmtd_check_table(5, K, b, NULL, 0) == QMTD_BAD_BRANCHES);
+        EXPECT(qmtd_check_table(5, K, b, table_a, 7) == QMTD_BAD_BRANCHES);
+        EXPECT(qmtd_encode(5, K, b, table_a, n, data, K, page, sizeof page) == QMTD_BAD_BRANCHES);
+        EXPECT(qmtd_encode(5, K, b, NULL, 0, NULL, 0, NULL, 0) == QMTD_BAD_BRANCHES);
+        EXPECT(qmtd_syndrome(5, K, b, table_a, n, page, sizeof page, syndrome, K) == QMTD_BAD_BRANCHES);
+        EXPECT(qmtd_syndrome(5, K, b, NULL, 0, NULL, 0, NULL, 0) == QMTD_BAD_BRANCHES);
+        EXPECT(qmtd_decode(5, K, b, table_a, n, page, sizeof page, thresholds, 2, result, K, syndrome, K, difference, K,
+                           margins, sizeof margins, counts, sizeof counts) == QMTD_BAD_BRANCHES);
+        EXPECT(qmtd_decode(5, K, b, NULL, 0, NULL, 0, NULL, 0, NULL, 0, NULL, 0, NULL, 0, NULL, 0, NULL, 0) ==
+               QMTD_BAD_BRANCHES);
+    }
+    EXPECT(answers_untouched() && all(page, sizeof page, 0));
+
+    /* b * k at its limit, and above; one position in each run. */
+    for (uint32_t b = QMTD_MIN_B; b <= QMTD_MAX_B; b++) {
+        uint32_t most = QMTD_MAX_DATA / b, due = b == 1 ? QMTD_BAD_K : QMTD_BAD_BRANCHES;
+        EXPECT(qmtd_check_table(5, most, b, zeros, QMTD_TABLE_LEN(b, 1)) == QMTD_OK);
+        EXPECT(qmtd_check_table(5, most + 1, b, zeros, QMTD_TABLE_LEN(b, 1)) == due);
+    }
+
+    /* Lengths of a table that are not b runs of 1 to 32 positions, up to two bytes more than the longest table. A table
+     * of zeros ascends only in runs of one. */
+    for (uint32_t b = QMTD_MIN_B; b <= QMTD_MAX_B; b++)
+        for (uint32_t len = 0; len <= sizeof zeros; len++) {
+            uint32_t j = len / (2 * b), due = j == 1 ? QMTD_OK : QMTD_BAD_POSITION;
+            if (len != QMTD_TABLE_LEN(b, j) || j < QMTD_MIN_J || j > QMTD_MAX_J)
+                due = QMTD_BAD_J;
+            EXPECT(qmtd_check_table(5, K, b, zeros, len) == due);
+        }
+    EXPECT(QMTD_BAD_BRANCHES == 10 && QMTD_MIN_B == 1 && QMTD_MAX_B == 8 && QMTD_MAX_DATA == 4096);
 }
 
 int main(void)
@@ -336,6 +408,7 @@ int main(void)
     names();
     margin_bytes();
     unaligned();
+    branches();
     recovery();
     printf("%d failures\n", failures);
     return failures == 0 ? 0 : 1;

@@ -47,8 +47,8 @@ static int same(const uint8_t *a, const uint8_t *b, size_t len)
 
 static uint32_t decode(uint32_t q)
 {
-    return qmtd_decode(q, K, table, sizeof table, received, sizeof received, thresholds, sizeof thresholds, result, K,
-                       syndrome, K, difference, K, margins, sizeof margins, counts, sizeof counts);
+    return qmtd_decode(q, K, 1, table, sizeof table, received, sizeof received, thresholds, sizeof thresholds,
+                       result, K, syndrome, K, difference, K, margins, sizeof margins, counts, sizeof counts);
 }
 
 /* Nothing but d(0) and d(1) is left that is not 0. */
@@ -67,13 +67,13 @@ int run(void)
     static const uint8_t zeros[K];
     if (qmtd_version() != QMTD_VERSION_NUMBER)
         return 1;
-    if (qmtd_check_table(256, K, table, sizeof table) != QMTD_OK ||
-        qmtd_check_table(256, 12, table, sizeof table) != QMTD_NOT_SELF_ORTHOGONAL)
+    if (qmtd_check_table(256, K, 1, table, sizeof table) != QMTD_OK ||
+        qmtd_check_table(256, 12, 1, table, sizeof table) != QMTD_NOT_SELF_ORTHOGONAL)
         return 2;
-    if (qmtd_encode(256, K, table, sizeof table, data, K, page, sizeof page) != QMTD_OK ||
+    if (qmtd_encode(256, K, 1, table, sizeof table, data, K, page, sizeof page) != QMTD_OK ||
         !same(page, code_word, sizeof page))
         return 3;
-    if (qmtd_syndrome(256, K, table, sizeof table, page, sizeof page, syndrome, K) != QMTD_OK ||
+    if (qmtd_syndrome(256, K, 1, table, sizeof table, page, sizeof page, syndrome, K) != QMTD_OK ||
         !same(syndrome, zeros, K))
         return 4;
     if (decode(256) != QMTD_OK)

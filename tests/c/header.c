@@ -6,10 +6,10 @@
 #define LENT uint8_t *, uint64_t
 
 typedef uint32_t version_call(void);
-typedef uint32_t check_table_call(uint32_t, uint32_t, READ);
-typedef uint32_t encode_call(uint32_t, uint32_t, READ, READ, LENT);
-typedef uint32_t syndrome_call(uint32_t, uint32_t, READ, READ, LENT);
-typedef uint32_t decode_call(uint32_t, uint32_t, READ, READ, READ, LENT, LENT, LENT, LENT, LENT);
+typedef uint32_t check_table_call(uint32_t, uint32_t, uint32_t, READ);
+typedef uint32_t encode_call(uint32_t, uint32_t, uint32_t, READ, READ, LENT);
+typedef uint32_t syndrome_call(uint32_t, uint32_t, uint32_t, READ, READ, LENT);
+typedef uint32_t decode_call(uint32_t, uint32_t, uint32_t, READ, READ, READ, LENT, LENT, LENT, LENT, LENT);
 typedef int32_t margin_reader(const uint8_t *, uint64_t);
 
 extern const struct calls {

@@ -25,23 +25,23 @@ struct piece {
 
 static uint32_t check_table(const uint32_t *n, const struct piece *p)
 {
-    return qmtd_check_table(n[0], n[1], LENT(p[0]));
+    return qmtd_check_table(n[0], n[1], n[2], LENT(p[0]));
 }
 
 static uint32_t encode(const uint32_t *n, const struct piece *p)
 {
-    return qmtd_encode(n[0], n[1], LENT(p[0]), LENT(p[1]), LENT(p[2]));
+    return qmtd_encode(n[0], n[1], n[2], LENT(p[0]), LENT(p[1]), LENT(p[2]));
 }
 
 static uint32_t syndrome(const uint32_t *n, const struct piece *p)
 {
-    return qmtd_syndrome(n[0], n[1], LENT(p[0]), LENT(p[1]), LENT(p[2]));
+    return qmtd_syndrome(n[0], n[1], n[2], LENT(p[0]), LENT(p[1]), LENT(p[2]));
 }
 
 static uint32_t decode(const uint32_t *n, const struct piece *p)
 {
-    return qmtd_decode(n[0], n[1], LENT(p[0]), LENT(p[1]), LENT(p[2]), LENT(p[3]), LENT(p[4]), LENT(p[5]), LENT(p[6]),
-                       LENT(p[7]));
+    return qmtd_decode(n[0], n[1], n[2], LENT(p[0]), LENT(p[1]), LENT(p[2]), LENT(p[3]), LENT(p[4]), LENT(p[5]),
+                       LENT(p[6]), LENT(p[7]));
 }
 
 /* The calls by their number in the file: name, how many numbers each takes, the names of its pieces, the call itself.
@@ -53,10 +53,10 @@ static const struct call {
     uint32_t (*make)(const uint32_t *numbers, const struct piece *pieces);
 } calls[] = {
     {"", 1, {"name"}, NULL},
-    {"check_table", 2, {"table"}, check_table},
-    {"encode", 2, {"table", "data", "page"}, encode},
-    {"syndrome", 2, {"table", "page", "syndrome"}, syndrome},
-    {"decode", 2, {"table", "page", "thresholds", "result", "syndrome", "difference", "margins", "counts"}, decode},
+    {"check_table", 3, {"table"}, check_table},
+    {"encode", 3, {"table", "data", "page"}, encode},
+    {"syndrome", 3, {"table", "page", "syndrome"}, syndrome},
+    {"decode", 3, {"table", "page", "thresholds", "result", "syndrome", "difference", "margins", "counts"}, decode},
 };
 enum { OPEN_GROUP, CALLS = sizeof calls / sizeof calls[0] };
 

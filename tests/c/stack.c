@@ -6,36 +6,48 @@
 #include <stdio.h>
 #include <string.h>
 
-enum { K = QMTD_MAX_K, J = 10, STACK = 65536, FILL = 0xA7, ALLOWED = 8192 };
+enum { K = QMTD_MAX_K, N = QMTD_MAX_DATA, PAIRS_K = N / QMTD_MAX_B, STACK = 65536, FILL = 0xA7, ALLOWED = 8192 };
 
-/* A Golomb ruler of 10 marks. */
-static const uint8_t table[QMTD_TABLE_LEN(J)] = {0, 0, 1, 0, 6, 0, 10, 0, 23, 0, 26, 0, 34, 0, 41, 0, 53, 0, 55, 0};
+/* One branch: a Golomb ruler of 10 marks. Eight branches: two positions each. */
+static const uint8_t ruler[] = {0, 0, 1, 0, 6, 0, 10, 0, 23, 0, 26, 0, 34, 0, 41, 0, 53, 0, 55, 0};
+static const uint8_t pairs[] = {0, 0, 1, 0, 0, 0, 2, 0, 0, 0, 3, 0, 0, 0, 4, 0,
+                                0, 0, 5, 0, 0, 0, 6, 0, 0, 0, 7, 0, 0, 0, 8, 0};
 static const uint8_t thresholds[] = {2, 1, 0, 0};
 
-static uint8_t data[K], page[QMTD_PAGE_LEN(K)], result[K], syndrome[K], difference[K];
-static uint8_t margins[QMTD_MARGINS_LEN(K)], counts[QMTD_COUNTS_LEN];
+/* The code of the calls below. */
+static const struct code {
+    const char *name;
+    uint32_t k, b;
+    const uint8_t *table;
+    size_t table_len;
+} codes[] = {{"b = 1", K, 1, ruler, sizeof ruler}, {"b = 8", PAIRS_K, QMTD_MAX_B, pairs, sizeof pairs}}, *code;
+
+static uint8_t data[N], page[QMTD_MAX_PAGE_LEN], result[N], syndrome[K], difference[N];
+static uint8_t margins[QMTD_MARGINS_LEN(N, 1)], counts[QMTD_COUNTS_LEN];
 static uint8_t stack[STACK] __attribute__((aligned(16)));
 static uint32_t number;
 
+#define CODE 251, code->k, code->b, code->table, code->table_len
+
 static void check_table(void)
 {
-    number = qmtd_check_table(251, K, table, sizeof table);
+    number = qmtd_check_table(CODE);
 }
 
 static void encode(void)
 {
-    number = qmtd_encode(251, K, table, sizeof table, data, K, page, sizeof page);
+    number = qmtd_encode(CODE, data, N, page, N + code->k);
 }
 
 static void work_out_syndrome(void)
 {
-    number = qmtd_syndrome(251, K, table, sizeof table, page, sizeof page, syndrome, K);
+    number = qmtd_syndrome(CODE, page, N + code->k, syndrome, code->k);
 }
 
 static void decode(void)
 {
-    number = qmtd_decode(251, K, table, sizeof table, page, sizeof page, thresholds, sizeof thresholds, result, K,
-                         syndrome, K, difference, K, margins, sizeof margins, counts, sizeof counts);
+    number = qmtd_decode(CODE, page, N + code->k, thresholds, sizeof thresholds, result, N, syndrome, code->k,
+                         difference, N, margins, sizeof margins, counts, sizeof counts);
 }
 
 static void idle(void)
@@ -92,15 +104,17 @@ int main(void)
     } calls[] = {{"check_table", check_table}, {"encode", encode}, {"syndrome", work_out_syndrome}, {"decode", decode}};
     int wrong = 0;
     size_t around = used_by(idle);
-    for (size_t i = 0; i < K; i++)
+    for (size_t i = 0; i < N; i++)
         data[i] = (uint8_t)(i % 251);
-    for (size_t i = 0; i < sizeof calls / sizeof calls[0]; i++) {
-        size_t used = used_by(calls[i].call) - around;
-        printf("%-12s %lu bytes of stack\n", calls[i].name, (unsigned long)used);
-        wrong |= number != QMTD_OK || used > ALLOWED;
-        if (calls[i].call == encode)
-            for (size_t at = 0; at < sizeof page; at += 100)
-                page[at] = (uint8_t)((page[at] + 1) % 251);
-    }
+    for (size_t c = 0; c < sizeof codes / sizeof codes[0]; c++)
+        for (size_t i = 0; i < sizeof calls / sizeof calls[0]; i++) {
+            code = &codes[c];
+            size_t used = used_by(calls[i].call) - around;
+            printf("%s, %-12s %lu bytes of stack\n", code->name, calls[i].name, (unsigned long)used);
+            wrong |= number != QMTD_OK || used > ALLOWED;
+            if (calls[i].call == encode)
+                for (size_t at = 0; at < N + code->k; at += 100)
+                    page[at] = (uint8_t)((page[at] + 1) % 251);
+        }
     return wrong;
 }

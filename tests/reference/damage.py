@@ -21,7 +21,7 @@ def pages(q, k, positions, replaced):
     """Random data, and its page with so many symbols replaced by others; the same pages each time."""
     random = Random(9)
     for _ in range(PAGES):
-        page = ref.code_word(q, k, positions, random.symbols(q, k))
+        page = ref.code_word(q, k, [positions], random.symbols(q, k))
         data = page[:k]
         for i in random.some(range(2 * k), replaced):
             page[i] = (page[i] + 1 + random.below(q - 1)) % q
@@ -36,7 +36,7 @@ def main():
             cells = []
             for share in SHARES:
                 replaced = -(-2 * k * share // 100)
-                right = sum(ref.run(q, k, positions, page, thresholds)[0] == data
+                right = sum(ref.run(q, k, [positions], page, thresholds)[0] == data
                             for data, page in pages(q, k, positions, replaced))
                 cells.append(f"{right} ({replaced})")
             print(f"| {k}, {len(positions)} | {', '.join(map(str, thresholds))} |", " | ".join(cells), "|", flush=True)

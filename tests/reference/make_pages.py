@@ -14,7 +14,7 @@ from pathlib import Path
 
 import reference as ref
 import screen
-from codes import SINGER, Random, greedy, positions_for, singer
+from codes import LINES, SINGER, WIDEST, Random, greedy, greedy_runs, positions_for, runs_for, singer
 from records import CHECK_TABLE, DECODE, ENCODE, SYNDROME, Pages
 
 ROOT = Path(__file__).resolve().parent.parent.parent
@@ -49,7 +49,7 @@ def random_places(random, k, count):
 
 def other_length(k, at, length):
     """The lengths of decode's answers, but for one of them."""
-    lengths = list(ref.decode_lengths(k))
+    lengths = list(ref.decode_lengths(k, 1))
     lengths[at] = length
     return tuple(lengths)
 
@@ -60,52 +60,52 @@ def other_length(k, at, length):
 def odd_tables(pages, random):
     odd = ref.CODE_A[:7]
     for table in (b"\0", odd, ref.CODE_A + b"\7", ref.table_of(range(31)) + b"\37", ref.table_of(range(32)) + b"\40"):
-        pages.check_table(256, 13, table, expect=3)
-    pages.check_table(2, 13, odd, expect=1)
-    pages.check_table(256, 0, odd, expect=2)
-    pages.check_table(256, 4097, odd, expect=2)
-    pages.check_table(256, 13, b"\6\0\4\0\1", expect=3)
-    pages.check_table(256, 13, b"\0\0\1\0\2\0\7", expect=3)
-    pages.encode(5, 13, odd, [0] * 13, expect=3)
-    pages.encode(5, 13, odd, [0] * 12, expect=3)
-    pages.syndrome(5, 13, odd, [0] * 26, expect=3)
-    pages.syndrome(5, 13, odd, [5] * 26, expect=3)
-    pages.decode(5, 13, odd, [0] * 26, [0], expect=3)
-    pages.decode(5, 13, odd, [0] * 26, [], expect=3)
-    pages.decode(5, 13, odd, [0] * 26, [33], expect=3)
+        pages.check_table(256, 13, 1, table, expect=3)
+    pages.check_table(2, 13, 1, odd, expect=1)
+    pages.check_table(256, 0, 1, odd, expect=2)
+    pages.check_table(256, 4097, 1, odd, expect=2)
+    pages.check_table(256, 13, 1, b"\6\0\4\0\1", expect=3)
+    pages.check_table(256, 13, 1, b"\0\0\1\0\2\0\7", expect=3)
+    pages.encode(5, 13, 1, odd, [0] * 13, expect=3)
+    pages.encode(5, 13, 1, odd, [0] * 12, expect=3)
+    pages.syndrome(5, 13, 1, odd, [0] * 26, expect=3)
+    pages.syndrome(5, 13, 1, odd, [5] * 26, expect=3)
+    pages.decode(5, 13, 1, odd, [0] * 26, [0], expect=3)
+    pages.decode(5, 13, 1, odd, [0] * 26, [], expect=3)
+    pages.decode(5, 13, 1, odd, [0] * 26, [33], expect=3)
 
 
 @group("case 11: the limits of q")
 def case_11(pages, random):
     for q, number in ((2, 1), (3, 0), (256, 0), (257, 1)):
-        pages.every_call(q, 13, ref.CODE_A, expect=number)
+        pages.every_call(q, 13, 1, ref.CODE_A, expect=number)
 
 
 @group("case 12: the limits of a symbol")
 def case_12(pages, random):
     for place in (0, 12):
         for symbol, number in ((4, 0), (5, 7)):
-            pages.encode(5, 13, ref.CODE_A, ref.symbols(13, {place: symbol}), expect=number)
-    pages.encode(5, 13, ref.CODE_A, ref.symbols(12, {3: 5}), expect=6)
+            pages.encode(5, 13, 1, ref.CODE_A, ref.symbols(13, {place: symbol}), expect=number)
+    pages.encode(5, 13, 1, ref.CODE_A, ref.symbols(12, {3: 5}), expect=6)
     for place in (0, 25):
         for symbol, number in ((4, 0), (5, 7)):
             page = ref.symbols(26, {place: symbol})
-            pages.syndrome(5, 13, ref.CODE_A, page, expect=number)
-            pages.decode(5, 13, ref.CODE_A, page, [0, 0], expect=number)
-    pages.syndrome(5, 13, ref.CODE_A, ref.symbols(25, {3: 5}), expect=6)
-    pages.decode(5, 13, ref.CODE_A, ref.symbols(25, {3: 5}), [0, 0], expect=6)
+            pages.syndrome(5, 13, 1, ref.CODE_A, page, expect=number)
+            pages.decode(5, 13, 1, ref.CODE_A, page, [0, 0], expect=number)
+    pages.syndrome(5, 13, 1, ref.CODE_A, ref.symbols(25, {3: 5}), expect=6)
+    pages.decode(5, 13, 1, ref.CODE_A, ref.symbols(25, {3: 5}), [0, 0], expect=6)
 
 
 @group("case 13: the limits of thresholds")
 def case_13(pages, random):
     page = ref.page_a({3: 2})
     for count, number in ((64, 0), (65, 8)):
-        pages.decode(5, 13, ref.CODE_A, page, [0] * count, expect=number)
-        pages.decode(5, 13, ref.CODE_A, page, [32] * count, expect=number)
+        pages.decode(5, 13, 1, ref.CODE_A, page, [0] * count, expect=number)
+        pages.decode(5, 13, 1, ref.CODE_A, page, [32] * count, expect=number)
     for threshold, number in ((32, 0), (33, 9)):
-        pages.decode(5, 13, ref.CODE_A, page, [threshold], expect=number)
-        pages.decode(5, 13, ref.CODE_A, page, [0, threshold, 0], expect=number)
-    pages.decode(5, 13, ref.CODE_A, ref.page_a({3: 5}), [], expect=7)
+        pages.decode(5, 13, 1, ref.CODE_A, page, [threshold], expect=number)
+        pages.decode(5, 13, 1, ref.CODE_A, page, [0, threshold, 0], expect=number)
+    pages.decode(5, 13, 1, ref.CODE_A, ref.page_a({3: 5}), [], expect=7)
 
 
 @group("case 14: votes")
@@ -113,7 +113,7 @@ def case_14(pages, random):
     """Symbol 0 of code A has the checks 0, 1, 4, 6, and its d is 0 at first. Received data 0 and checks -s give S = s."""
     def vote(q, s, threshold, changes):
         checks = {i: -value % q for i, value in zip((0, 1, 4, 6), s)}
-        got = pages.decode(q, 13, ref.CODE_A, ref.page_a({}, checks), [threshold], expect=0)
+        got = pages.decode(q, 13, 1, ref.CODE_A, ref.page_a({}, checks), [threshold], expect=0)
         assert got.counts.changes == changes
 
     for threshold in range(33):
@@ -130,16 +130,16 @@ def tables_accepted(pages, random):
     for j in range(1, 33):
         tight = min(k for k, p in SINGER.items() if p + 1 >= j)
         for k in (tight, random.pick((4096, 4095, 3783, 2500)))[:1 + (j % 12 == 8)]:
-            pages.check_table(random.pick(ALPHABETS), k, ref.table_of(positions_for(random, k, j)), expect=0)
+            pages.check_table(random.pick(ALPHABETS), k, 1, ref.table_of(positions_for(random, k, j)), expect=0)
     for k, positions in ((1, [0]), (2, [0]), (2, [1]), (3, [0, 1]), (3, [1, 2]), (4096, [0]), (4096, [4095]),
                          (4096, [0, 4095]), (4096, [0, 2047]), (4096, [1, 2050]), (7, [0, 1, 3]), (7, [3, 5, 6])):
-        pages.check_table(256, k, ref.table_of(positions), expect=0)
+        pages.check_table(256, k, 1, ref.table_of(positions), expect=0)
 
 
 @group("tables refused")
 def tables_refused(pages, random):
     def refused(k, positions, number):
-        pages.check_table(256, k, ref.table_of(positions), expect=number)
+        pages.check_table(256, k, 1, ref.table_of(positions), expect=number)
 
     # J, then positions
     refused(13, [], 3)
@@ -182,11 +182,11 @@ def encode(pages, random):
                     (16, 31, 6), (255, 57, 8), (17, 100, 5), (128, 133, 12), (251, 256, 8),
                     (7, 257, 6), (256, 307, 18), (127, 512, 9), (100, 993, 32), (251, 1021, 12), (256, 2000, 20),
                     (3, 4095, 10), (256, 4096, 10), (251, 4096, 32)):
-        pages.encode(q, k, ref.table_of(positions_for(random, k, j)), random.symbols(q, k), expect=0)
+        pages.encode(q, k, 1, ref.table_of(positions_for(random, k, j)), random.symbols(q, k), expect=0)
     # The largest sums, and none.
     for q, k, j in ((3, 993, 32), (129, 993, 32), (255, 993, 32), (256, 993, 32)):
-        pages.encode(q, k, ref.table_of(positions_for(random, k, j)), [q - 1] * k, expect=0)
-    pages.encode(256, 13, ref.CODE_A, [0] * 13, expect=0)
+        pages.encode(q, k, 1, ref.table_of(positions_for(random, k, j)), [q - 1] * k, expect=0)
+    pages.encode(256, 13, 1, ref.CODE_A, [0] * 13, expect=0)
 
 
 @group("syndrome")
@@ -194,17 +194,17 @@ def syndrome(pages, random):
     for q, k, j in ((3, 1, 1), (256, 1, 1), (10, 2, 1), (5, 3, 2), (255, 7, 3), (256, 13, 4), (4, 31, 6), (129, 57, 8),
                     (128, 100, 5), (17, 133, 12), (251, 256, 8), (7, 381, 20), (200, 993, 32), (100, 1021, 12),
                     (5, 4095, 9), (256, 4096, 32)):
-        pages.syndrome(q, k, ref.table_of(positions_for(random, k, j)), random.symbols(q, 2 * k), expect=0)
+        pages.syndrome(q, k, 1, ref.table_of(positions_for(random, k, j)), random.symbols(q, 2 * k), expect=0)
     # A code word, one with a replaced symbol, and the largest and smallest values of a sum less a check.
     for q, k, j in ((10, 57, 8), (251, 133, 12)):
         positions = positions_for(random, k, j)
-        page = ref.code_word(q, k, positions, random.symbols(q, k))
-        pages.syndrome(q, k, ref.table_of(positions), page, expect=0)
-        pages.syndrome(q, k, ref.table_of(positions), damaged(random, q, page, random_places(random, k, 1)), expect=0)
+        page = ref.code_word(q, k, [positions], random.symbols(q, k))
+        pages.syndrome(q, k, 1, ref.table_of(positions), page, expect=0)
+        pages.syndrome(q, k, 1, ref.table_of(positions), damaged(random, q, page, random_places(random, k, 1)), expect=0)
     for q in (129, 256):
         table = ref.table_of(positions_for(random, 307, 18))
-        pages.syndrome(q, 307, table, [q - 1] * 307 + [0] * 307, expect=0)
-        pages.syndrome(q, 307, table, [0] * 307 + [q - 1] * 307, expect=0)
+        pages.syndrome(q, 307, 1, table, [q - 1] * 307 + [0] * 307, expect=0)
+        pages.syndrome(q, 307, 1, table, [0] * 307 + [q - 1] * 307, expect=0)
 
 
 @group("decode, clean pages")
@@ -216,7 +216,7 @@ def clean(pages, random):
                                 (256, 4096, 10, [0]), (100, 4096, 32, [0, 1, 2])):
         positions = positions_for(random, k, j)
         data = random.symbols(q, k)
-        got = pages.decode(q, k, ref.table_of(positions), ref.code_word(q, k, positions, data), thresholds, expect=0)
+        got = pages.decode(q, k, 1, ref.table_of(positions), ref.code_word(q, k, [positions], data), thresholds, expect=0)
         assert got.result == data and got.counts == (1, 0, 0, 0)
 
 
@@ -226,8 +226,8 @@ def inside(pages, random):
     def inside(q, k, positions, thresholds, places):
         assert 2 * len(places) + thresholds[0] <= len(positions)
         data = random.symbols(q, k)
-        page = damaged(random, q, ref.code_word(q, k, positions, data), places)
-        got = pages.decode(q, k, ref.table_of(positions), page, thresholds, expect=0)
+        page = damaged(random, q, ref.code_word(q, k, [positions], data), places)
+        got = pages.decode(q, k, 1, ref.table_of(positions), page, thresholds, expect=0)
         assert got.result == data
 
     for q, k, j, first in ((3, 3, 2, 0), (256, 3, 2, 0), (5, 7, 3, 0), (251, 7, 3, 1), (10, 13, 4, 0), (256, 13, 4, 0),
@@ -244,7 +244,7 @@ def inside(pages, random):
     for q, k, j in ((3, 13, 4), (256, 57, 8), (251, 307, 18), (5, 993, 32)):
         positions = positions_for(random, k, j)
         at = random.below(k)
-        checks = [k + i for i in ref.checks_of(k, positions, at)]
+        checks = [k + i for i in ref.checks_of(k, [positions], at)]
         inside(q, k, positions, [0, 0], [at] + checks[:j // 2 - 1])
         inside(q, k, positions, [0, 0], checks[:j // 2])
     # Damage in data symbols next to each other.
@@ -266,18 +266,18 @@ def outside(pages, random):
         positions = positions_for(random, k, j)
         count = 2 * k // share if share else j // 2 + 1
         thresholds = random.pick(([0] * 4, [2, 1, 0, 0, 0], [j // 2, 0, 0], [1] * 3, [0] * 12))
-        page = ref.code_word(q, k, positions, random.symbols(q, k))
+        page = ref.code_word(q, k, [positions], random.symbols(q, k))
         page = damaged(random, q, page, random_places(random, k, max(count, j // 2 + 1)))
-        pages.decode(q, k, ref.table_of(positions), page, thresholds, expect=0)
+        pages.decode(q, k, 1, ref.table_of(positions), page, thresholds, expect=0)
     # Like case 10: the checks of one data symbol moved together, so that it is changed though it was right.
     for q, k, j in ((5, 13, 4), (256, 57, 8), (251, 307, 18)):
         positions = positions_for(random, k, j)
         data = random.symbols(q, k)
-        page = ref.code_word(q, k, positions, data)
+        page = ref.code_word(q, k, [positions], data)
         at = random.below(k)
-        for i in ref.checks_of(k, positions, at)[:j // 2 + 1]:
+        for i in ref.checks_of(k, [positions], at)[:j // 2 + 1]:
             page[k + i] = (page[k + i] + 3) % q
-        got = pages.decode(q, k, ref.table_of(positions), page, [0], expect=0)
+        got = pages.decode(q, k, 1, ref.table_of(positions), page, [0], expect=0)
         assert got.result != data and got.counts.end < got.counts.start
 
 
@@ -293,7 +293,7 @@ def heavy(pages, random):
                                 (4, 993, 31, [4, 3, 2, 1, 0]), (255, 993, 32, [0] * 32), (5, 1021, 12, [0] * 64),
                                 (3, 4096, 32, [0] * 64), (256, 4096, 10, [0] * 16), (128, 4095, 1, [0])):
         table = ref.table_of(positions_for(random, k, j))
-        pages.decode(q, k, table, random.symbols(q, 2 * k), thresholds, expect=0)
+        pages.decode(q, k, 1, table, random.symbols(q, 2 * k), thresholds, expect=0)
 
 
 @group("refusals one by one")
@@ -303,48 +303,48 @@ def one_by_one(pages, random):
 
     # Numbers that would pass if only their low bits were looked at are among them.
     for q in (0, 1, 261, 65541, 4294967295):
-        pages.check_table(q, k, a, expect=1)
+        pages.check_table(q, k, 1, a, expect=1)
     for bad_k in (0, 4097, 4109, 65549, 4294967295):
-        pages.check_table(5, bad_k, a, expect=2)
+        pages.check_table(5, bad_k, 1, a, expect=2)
     for q, k_, table, number in ((0, k, a, 1), (4294967295, k, a, 1), (5, k, b"", 3), (5, k, ref.table_of(range(33)), 3),
                                  (5, k, ref.table_of([0, 1, 4, 13]), 4), (5, 12, a, 5)):
-        pages.encode(q, k_, table, [0] * k_, expect=number)
-        pages.syndrome(q, k_, table, [0] * (2 * k_), expect=number)
-        pages.decode(q, k_, table, [0] * (2 * k_), [0], expect=number)
-    pages.encode(5, 0, a, [], expect=2)
-    pages.encode(5, 4097, a, [0] * 4097, expect=2)
-    pages.encode(5, 65549, a, [0] * 13, page_len=26, expect=2)
-    pages.syndrome(5, 0, a, [], expect=2)
-    pages.syndrome(5, 65549, a, [0] * 26, syndrome_len=13, expect=2)
-    pages.decode(5, 0, a, [], [0], expect=2)
-    pages.decode(5, 4097, a, [0] * 8194, [0], expect=2)
-    pages.decode(5, 65549, a, [0] * 26, [0], lengths=ref.decode_lengths(13), expect=2)
+        pages.encode(q, k_, 1, table, [0] * k_, expect=number)
+        pages.syndrome(q, k_, 1, table, [0] * (2 * k_), expect=number)
+        pages.decode(q, k_, 1, table, [0] * (2 * k_), [0], expect=number)
+    pages.encode(5, 0, 1, a, [], expect=2)
+    pages.encode(5, 4097, 1, a, [0] * 4097, expect=2)
+    pages.encode(5, 65549, 1, a, [0] * 13, page_len=26, expect=2)
+    pages.syndrome(5, 0, 1, a, [], expect=2)
+    pages.syndrome(5, 65549, 1, a, [0] * 26, syndrome_len=13, expect=2)
+    pages.decode(5, 0, 1, a, [], [0], expect=2)
+    pages.decode(5, 4097, 1, a, [0] * 8194, [0], expect=2)
+    pages.decode(5, 65549, 1, a, [0] * 26, [0], lengths=ref.decode_lengths(13, 1), expect=2)
 
     for length in (12, 14, 0):
-        pages.encode(5, k, a, [0] * length, expect=6)
+        pages.encode(5, k, 1, a, [0] * length, expect=6)
     for length in (25, 27, 0):
-        pages.encode(5, k, a, [0] * k, page_len=length, expect=6)
-        pages.syndrome(5, k, a, [0] * length, expect=6)
-        pages.decode(5, k, a, [0] * length, [0], expect=6)
+        pages.encode(5, k, 1, a, [0] * k, page_len=length, expect=6)
+        pages.syndrome(5, k, 1, a, [0] * length, expect=6)
+        pages.decode(5, k, 1, a, [0] * length, [0], expect=6)
     for length in (12, 14, 0):
-        pages.syndrome(5, k, a, [0] * 26, syndrome_len=length, expect=6)
+        pages.syndrome(5, k, 1, a, [0] * 26, syndrome_len=length, expect=6)
     for at, length in itertools.product(range(3), (12, 14, 0)):
-        pages.decode(5, k, a, [0] * 26, [0], lengths=other_length(k, at, length), expect=6)
-    pages.decode(5, k, a, [0] * 26, [0], lengths=(12, 13, 14, 52), expect=6)
-    pages.decode(256, 4096, a, [0] * 8193, [0], expect=6)
-    pages.decode(256, 4096, a, [0] * 8191, [0], expect=6)
+        pages.decode(5, k, 1, a, [0] * 26, [0], lengths=other_length(k, at, length), expect=6)
+    pages.decode(5, k, 1, a, [0] * 26, [0], lengths=(12, 13, 14, 52), expect=6)
+    pages.decode(256, 4096, 1, a, [0] * 8193, [0], expect=6)
+    pages.decode(256, 4096, 1, a, [0] * 8191, [0], expect=6)
 
     for q, symbol, place in ((3, 3, 0), (251, 251, 12), (255, 255, 5)):
-        pages.encode(q, k, a, ref.symbols(13, {place: symbol}), expect=7)
+        pages.encode(q, k, 1, a, ref.symbols(13, {place: symbol}), expect=7)
         for received in (place, place + 13):
-            pages.syndrome(q, k, a, ref.symbols(26, {received: symbol}), expect=7)
-            pages.decode(q, k, a, ref.symbols(26, {received: symbol}), [0], expect=7)
+            pages.syndrome(q, k, 1, a, ref.symbols(26, {received: symbol}), expect=7)
+            pages.decode(q, k, 1, a, ref.symbols(26, {received: symbol}), [0], expect=7)
 
     for count in (0, 65):
-        pages.decode(5, k, a, [0] * 26, [0] * count, expect=8)
+        pages.decode(5, k, 1, a, [0] * 26, [0] * count, expect=8)
     # Also where decoding would stop before it comes to the threshold.
     for thresholds in ([33], [255], [0, 33], [0] * 63 + [33]):
-        pages.decode(5, k, a, [0] * 26, thresholds, expect=9)
+        pages.decode(5, k, 1, a, [0] * 26, thresholds, expect=9)
 
 
 def spoiled(call, numbers):
@@ -367,13 +367,13 @@ def spoiled(call, numbers):
         thresholds[1] = 33
     table = ref.table_of(positions)
     if call == CHECK_TABLE:
-        return ref.table_tests(q, k, table), (q, k, table)
+        return ref.table_tests(q, k, 1, table), (q, k, 1, table)
     if call == ENCODE:
-        return ref.encode_tests(q, k, table, symbols, 2 * k), (q, k, table, symbols)
+        return ref.encode_tests(q, k, 1, table, symbols, 2 * k), (q, k, 1, table, symbols)
     if call == SYNDROME:
-        return ref.syndrome_tests(q, k, table, symbols, k), (q, k, table, symbols)
-    return (ref.decode_tests(q, k, table, symbols, thresholds, *ref.decode_lengths(k)),
-            (q, k, table, symbols, thresholds))
+        return ref.syndrome_tests(q, k, 1, table, symbols, k), (q, k, 1, table, symbols)
+    return (ref.decode_tests(q, k, 1, table, symbols, thresholds, *ref.decode_lengths(k, 1)),
+            (q, k, 1, table, symbols, thresholds))
 
 
 @group("refusals in pairs and all together")
@@ -418,7 +418,7 @@ def turned_back(q, k, positions):
     wrong = []
     for check in positions[:len(positions) // 2 + 1]:
         others = [(check - p) % k for p in positions if p != check]
-        wrong.append(min(others, key=lambda l: sum(ref.shared(k, positions, l, m) for m in wrong)))
+        wrong.append(min(others, key=lambda l: sum(ref.shared(k, [positions], l, m) for m in wrong)))
     return [1 if i in wrong else 0 for i in range(2 * k)]
 
 
@@ -427,32 +427,32 @@ def threshold_lists(pages, random):
     for count in (1, 2, 3, 5, 8, 13, 21, 31, 32, 33, 48, 63, 64):
         q, k, j = random.pick(((3, 133, 12), (10, 57, 8), (251, 31, 6)))
         positions = positions_for(random, k, j)
-        page = ref.code_word(q, k, positions, random.symbols(q, k))
+        page = ref.code_word(q, k, [positions], random.symbols(q, k))
         page = damaged(random, q, page, random_places(random, k, k // 4))
         thresholds = [random.below(3) for _ in range(count)]
-        pages.decode(q, k, ref.table_of(positions), page, thresholds, expect=0)
+        pages.decode(q, k, 1, ref.table_of(positions), page, thresholds, expect=0)
     # Falling, rising, and large ones, with data symbols replaced.
     for q, k, j, thresholds in ((10, 57, 8, list(range(8, -1, -1))), (256, 993, 32, list(range(33))),
                                 (256, 993, 32, [32] * 64), (256, 993, 32, [31, 32, 0, 32] * 16), (10, 57, 8, [0] * 64)):
         positions = positions_for(random, k, j)
-        page = ref.code_word(q, k, positions, random.symbols(q, k))
+        page = ref.code_word(q, k, [positions], random.symbols(q, k))
         page = damaged(random, q, page, random.some(range(k), 4))
-        pages.decode(q, k, ref.table_of(positions), page, thresholds, expect=0)
+        pages.decode(q, k, 1, ref.table_of(positions), page, thresholds, expect=0)
     # Many passes: the thresholds used up, and an idle pass that is the last of the list or the one before it.
     table = ref.table_of([0, 1, 100, 300])
     for length, count, passes, changes in ((70, 64, 64, 64), (63, 64, 64, 63), (62, 64, 63, 62), (30, 20, 20, 20)):
         page = chain(random, length)
-        while ref.decode(256, 512, table, page, [0] * count, *ref.decode_lengths(512))[1].changes_of_pass != \
+        while ref.decode(256, 512, 1, table, page, [0] * count, *ref.decode_lengths(512, 1))[1].changes_of_pass != \
                 ([1] * length + [0])[:count]:
             page = chain(random, length)
-        got = pages.decode(256, 512, table, page, [0] * count, expect=0)
+        got = pages.decode(256, 512, 1, table, page, [0] * count, expect=0)
         assert (got.counts.passes, got.counts.changes) == (passes, changes)
     # The largest lead, J + 1, against a threshold of J and of J + 1.
     for q, k, positions, second, changes_of_pass in ((256, 512, [0, 1, 100, 300], 4, [4, 1]),
                                                      (256, 512, [0, 1, 100, 300], 5, [4, 0]),
                                                      (251, 4096, greedy(4096)[:32], 32, [18, 1])):
         page = turned_back(q, k, positions)
-        got = pages.decode(q, k, ref.table_of(positions), page, [0, second], expect=0)
+        got = pages.decode(q, k, 1, ref.table_of(positions), page, [0, second], expect=0)
         assert got.changes_of_pass == changes_of_pass
 
 
@@ -460,14 +460,14 @@ def threshold_lists(pages, random):
 def cases_1_to_10(pages, random):
     a, b = ref.CODE_A, ref.table_of([0, 1, 3])
     for k, table, number in ((13, a, 0), (12, a, 5), (7, b, 0), (6, b, 5), (1, ref.table_of([0]), 0)):
-        pages.check_table(256, k, table, expect=number)
-    pages.encode(256, 1, ref.table_of([0]), [77], expect=0)
-    pages.encode(256, 13, a, ref.symbols(13, {0: 7}), expect=0)
-    pages.encode(256, 13, a, ref.symbols(13, {0: 10, 12: 250}), expect=0)
+        pages.check_table(256, k, 1, table, expect=number)
+    pages.encode(256, 1, 1, ref.table_of([0]), [77], expect=0)
+    pages.encode(256, 13, 1, a, ref.symbols(13, {0: 7}), expect=0)
+    pages.encode(256, 13, 1, a, ref.symbols(13, {0: 10, 12: 250}), expect=0)
     for page, thresholds in ((ref.page_a({0: 7}), [2, 2]), (ref.page_a({0: 7}), [3, 2]), (ref.page_a({}, {2: 9}), [0]),
                              (ref.page_a({0: 7, 1: 3}), [0, 0]),
                              (ref.page_a({}, {0: 251, 1: 251, 4: 251}), [0])):
-        pages.decode(256, 13, a, page, thresholds, expect=0)
+        pages.decode(256, 13, 1, a, page, thresholds, expect=0)
 
 
 @group("margins, heavy damage")
@@ -479,7 +479,7 @@ def margins_heavy(pages, random):
         q = random.pick((3, 4, 5, 10, 251, 256))
         thresholds = random.pick(([0], [j // 4], [j // 2], [1, 0, 0, 0]))
         table = ref.table_of(positions_for(random, k, j))
-        seen |= set(pages.decode(q, k, table, random.symbols(q, 2 * k), thresholds, expect=0).margins)
+        seen |= set(pages.decode(q, k, 1, table, random.symbols(q, 2 * k), thresholds, expect=0).margins)
     assert min(seen) < -5 and max(seen) > 20 and len(seen) > 30
 
 
@@ -502,7 +502,7 @@ def margins_all(pages, random):
         seen = set()
         # A threshold of 32 leaves every received page as it is.
         for page, thresholds in ((stepped(random, q, k), [32]), (back, [0]), (all_but_one, [0])):
-            seen |= set(pages.decode(q, k, ref.table_of(positions), page, thresholds, expect=0).margins)
+            seen |= set(pages.decode(q, k, 1, ref.table_of(positions), page, thresholds, expect=0).margins)
         j = len(positions)
         assert seen == set(range(-j - 1, j + 2)) - {j}
 
@@ -511,7 +511,7 @@ def margin_lengths(pages, cases, less):
     """Lengths of the margins that are refused: those of the cases, a k each, then a length with something else amiss."""
     margins = 3
     for k, length in cases:
-        pages.decode(5, k, ref.CODE_A, [0] * (2 * k), [0], lengths=other_length(k, margins, length), expect=6)
+        pages.decode(5, k, 1, ref.CODE_A, [0] * (2 * k), [0], lengths=other_length(k, margins, length), expect=6)
     for met in [(number,) for number in range(1, 10)] + [(7, 8, 9)]:
         _, arguments = spoiled(DECODE, met)
         k = arguments[1]
@@ -528,6 +528,390 @@ def margin_lengths_whole(pages, random):
 def margin_lengths_other(pages, random):
     margin_lengths(pages, ((13, 1), (13, 3), (13, 13), (13, 26), (13, 49), (13, 50), (13, 51), (13, 53), (13, 54),
                            (13, 55), (4096, 16383), (4096, 16385)), less=1)
+
+
+# Branches
+
+@group("branches, the codes of request N2")
+def branches_named(pages, random):
+    for runs, number in (([[0, 1], [0, 2]], 0), ([[0, 1], [0, 1]], 5)):
+        pages.every_call(256, 13, 2, ref.table_of(*runs), expect=number)
+    table = ref.table_of([0, 1], [0, 2])
+    data = ref.symbols(26, {0: 7, 25: 250})
+    pages.encode(256, 13, 2, table, data, expect=0)
+    pages.syndrome(256, 13, 2, table, data + ref.symbols(13, {0: 7, 1: 1}), expect=0)
+    for threshold in (0, 1, 2):
+        pages.decode(256, 13, 2, table, ref.symbols(39, {25: 250}), [threshold, 0], expect=0)
+    # The largest table of two branches for k = 13: every difference once. One symbol of each branch replaced in turn.
+    table = ref.table_of([0, 1, 4], [0, 2, 7])
+    for place in range(39):
+        got = pages.decode(10, 13, 2, table, ref.symbols(39, {place: 3}), [1, 0], expect=0)
+        assert got.result == [0] * 26
+
+
+@group("branches, the limits of b")
+def branches_limits(pages, random):
+    """b from 0 to 9 and far above, also where its low bits, b times k or b + 1 in 32 bits would pass."""
+    for b in range(1, 9):
+        pages.every_call(5, 13, b, ref.table_of(*[[r] for r in range(b)]), expect=0)
+        pages.every_call(256, 1, b, ref.table_of(*[[0]] * b), expect=0)
+
+    def refused(k, b, table, symbols):
+        """Every call, with the lengths of `symbols` data symbols."""
+        pages.check_table(5, k, b, table, expect=10)
+        pages.encode(5, k, b, table, [0] * symbols, page_len=symbols + 13, expect=10)
+        pages.syndrome(5, k, b, table, [0] * (symbols + 13), syndrome_len=13, expect=10)
+        pages.decode(5, k, b, table, [0] * (symbols + 13), [0], lengths=(symbols, 13, symbols, 4 * symbols), expect=10)
+
+    for b in (0, 9, 256, 2 ** 32 - 1):
+        refused(13, b, ref.CODE_A, 13)
+    refused(13, 0, b"", 0)
+    refused(13, 9, ref.table_of(*[[0]] * 9), 9 * 13)
+    for b in (10, 16, 17, 255, 257, 258, 65536, 65537, 2 ** 31, 2 ** 31 + 1, 2 ** 32 - 8, 2 ** 32 - 2):
+        pages.check_table(5, 13, b, ref.CODE_A, expect=10)
+    # b times k is 2^32 or little more.
+    for k, b in ((4096, 2 ** 20), (4096, 2 ** 20 + 1), (16, 2 ** 28 + 1), (13, 330382100), (3, 1431655766),
+                 (4095, 1048833)):
+        assert b * k % 2 ** 32 <= 4096
+        pages.check_table(256, k, b, ref.table_of([0]), expect=10)
+    pages.encode(256, 16, 2 ** 28 + 1, ref.table_of([0]), [0] * 16, page_len=32, expect=10)
+    pages.decode(256, 16, 2 ** 28 + 1, ref.table_of([0]), [0] * 32, [0], lengths=(16, 16, 16, 64), expect=10)
+
+    # b times k at 4,096, at the last that fits below it, and above.
+    for b in range(1, 9):
+        most = 4096 // b
+        table = ref.table_of(*[[r, 3 + 2 * r] for r in range(b)])
+        for k in (most, most + 1):
+            number = 0 if k == most else 2 if b == 1 else 10
+            pages.check_table(3, k, b, table, expect=number)
+    for b, k in ((2, 4096), (2, 2050), (3, 1400), (4, 4096), (8, 4096), (8, 520), (5, 1000), (7, 600)):
+        pages.check_table(3, k, b, ref.table_of(*[[0]] * b), expect=10)
+    # After 1 and 2 and before all else, whether b or b times k is at fault.
+    for b, k in ((0, 13), (9, 13), (2, 2049), (8, 513), (2 ** 32 - 1, 4096)):
+        for table in (b"", ref.table_of([0, 1, 4]), ref.table_of([1, 0], [0, 1]), ref.table_of([0, 1], [0, 1])):
+            pages.check_table(5, k, b, table, expect=10)
+            pages.check_table(5, 4097, b, table, expect=2)
+        pages.check_table(2, 0, b, b"", expect=1)
+        pages.check_table(5, 0, b, b"", expect=2)
+        pages.encode(5, k, b, b"", [5] * 3, page_len=4, expect=10)
+        pages.syndrome(5, k, b, b"", [5] * 3, syndrome_len=4, expect=10)
+        pages.decode(5, k, b, b"", [5] * 3, [33] * 65, lengths=(1, 2, 3, 4), expect=10)
+
+
+@group("branches, runs that are not of equal length")
+def branches_run_lengths(pages, random):
+    """3: positions that b does not divide, runs of none and of more than 32; whatever else is amiss with them."""
+    for b, count in ((2, 1), (2, 3), (2, 5), (2, 63), (2, 65), (2, 66), (2, 67), (3, 1), (3, 2), (3, 4), (3, 5), (3, 97),
+                     (3, 98), (3, 99), (4, 2), (4, 6), (4, 132), (5, 4), (5, 7), (6, 9), (6, 64), (7, 8), (7, 32),
+                     (8, 4), (8, 7), (8, 9), (8, 12), (8, 255), (8, 257), (8, 264), (8, 272), (8, 300)):
+        pages.check_table(256, 400, b, ref.table_of(range(count)), expect=3)
+    for b in range(2, 9):
+        pages.check_table(256, 13, b, b"", expect=3)
+        # One position of the last run missing, and one too many.
+        runs = runs_for(random, 512, b, 4)
+        table = ref.table_of(*runs)
+        pages.check_table(5, 512, b, table, expect=0)
+        pages.check_table(5, 512, b, table[:-2], expect=3)
+        pages.check_table(5, 512, b, table + b"\0\0", expect=3)
+    for table in (b"", ref.table_of([0, 1, 4]), ref.table_of([0, 1, 4, 0, 2]), ref.table_of([0] * 5),
+                  ref.table_of([0, 0, 13]), ref.table_of([0] * 66)):
+        pages.encode(5, 13, 2, table, [0] * 26, expect=3)
+        pages.syndrome(5, 13, 2, table, [0] * 39, expect=3)
+        pages.decode(5, 13, 2, table, [0] * 39, [0], expect=3)
+    # 32 positions in each run are not refused by 3.
+    for b in range(2, 9):
+        pages.check_table(5, 13, b, ref.table_of(*[range(32)] * b), expect=4)
+        pages.check_table(5, 512, b, ref.table_of(*[range(32)] * b), expect=5)
+
+
+@group("branches, lengths that C alone can have", c_only=True)
+def branches_odd_lengths(pages, random):
+    table = ref.table_of([0, 1, 4], [0, 2, 7])
+    for b, k, number in ((2, 13, 3), (0, 13, 10), (9, 13, 10), (2, 2049, 10), (2 ** 32 - 1, 13, 10), (2, 0, 2)):
+        for length in (1, 3, 5, 11, 13):
+            pages.check_table(5, k, b, (table + b"\0")[:length], expect=number)
+    for length in (1, 3, 5, 7, 9, 11):
+        pages.encode(5, 13, 2, table[:length], [0] * 26, expect=3)
+        pages.decode(5, 13, 2, table[:length], [5] * 39, [], expect=3)
+    for length in (26, 52, 101, 102, 103, 105, 106, 107):
+        pages.decode(5, 13, 2, table, [0] * 39, [0], lengths=(26, 13, 26, length), expect=6)
+
+
+@group("branches, tables")
+def branches_tables(pages, random):
+    def table(k, runs, number):
+        pages.check_table(random.pick(ALPHABETS), k, len(runs), ref.table_of(*runs), expect=number)
+
+    # Accepted. A run need not start above the one before it, and runs may have positions in common.
+    for k, runs in ((13, [[0, 5], [1, 3]]), (13, [[11, 12], [0, 2]]), (13, [[0, 1], [1, 3]]),
+                    (13, [[3, 4], [3, 5], [3, 6]]), (13, [[0, 1, 4], [0, 2, 7]]), (13, [[0, 2, 7], [0, 1, 4]]),
+                    (1, [[0]] * 8), (2, [[0], [1]]), (2, [[1]] * 8), (5, [[0, 1], [0, 2]]),
+                    (17, [[0, d] for d in range(1, 9)]), (512, [[511]] * 8), (2048, [[0, 2047], [5, 2046]]),
+                    (512, [[0, d] for d in (255, 254, 1, 100, 101, 50, 200, 3)])):
+        table(k, runs, 0)
+    for k, p in LINES.items():
+        for b in range(2, min(p, 8, 4096 // k) + 1):
+            table(k, runs_for(random, k, b, p + 1), 0)
+    for k, b, j in ((2048, 2, 21), (1365, 3, 16), (1024, 4, 12), (819, 5, 10), (682, 6, 8), (585, 7, 8), (512, 8, 7)):
+        table(k, runs_for(random, k, b, j), 0)
+    table(*WIDEST, 0)
+
+    # Not ascending, or k and more, in one of the runs; tested for all runs before any difference is.
+    for runs in ([[0, 1], [2, 0]], [[0, 1], [2, 2]], [[1, 0], [0, 2]], [[0, 1], [0, 13]], [[0, 13], [0, 2]],
+                 [[0, 1], [13, 14]], [[0, 1], [0, 65535]], [[0, 1], [0, 258]], [[0, 1], [0, 1], [3, 2]],
+                 [[0, 1, 2], [0, 4, 3]], [[0, 1, 4], [0, 2, 2]], [[0, 1], [0, 1], [0, 4096]], [[5, 4], [0, 1]],
+                 [[0, 1]] * 7 + [[1, 0]], [[0, 1]] * 7 + [[0, 13]], [[0]] * 7 + [[13]], [[13]] + [[0]] * 7):
+        table(13, runs, 4)
+
+    # A difference of one run in another, also where it is the same only modulo k or only taken the other way.
+    for k, runs in ((13, [[0, 1], [5, 6]]), (13, [[0, 1], [0, 12]]), (13, [[0, 12], [0, 1]]), (13, [[0, 2], [0, 11]]),
+                    (13, [[0, 1], [0, 2], [4, 6]]), (13, [[0, 1], [0, 2], [4, 5]]), (13, [[0, 1, 4], [0, 2, 5]]),
+                    (13, [[0, 1, 4], [0, 1, 4]]), (13, [[0, 1, 4], [1, 2, 5]]), (13, [[0, 1, 4], [0, 6, 8], [0, 3, 9]]),
+                    (7, [[0, 1, 3], [0, 1, 3]]), (4, [[0, 1], [0, 3]]), (3, [[0, 1], [0, 2]]),
+                    (16, [[0, d] for d in range(1, 9)]), (512, [[0, d] for d in (1, 2, 3, 4, 5, 6, 7, 511)])):
+        table(k, runs, 5)
+    # A difference within one run, of half of k or twice.
+    for k, runs in ((12, [[0, 1], [0, 6]]), (12, [[0, 6], [0, 1]]), (4, [[0, 1], [0, 2]]), (13, [[0, 1, 4], [0, 5, 10]]),
+                    (512, [[0, d] for d in (1, 2, 3, 4, 5, 6, 7, 256)])):
+        table(k, runs, 5)
+    # Each run by itself is accepted, and all but the last together; the last has a difference of another run.
+    for k, b, j in ((400, 7, 8), (156, 5, 6), (2048, 2, 16), (512, 8, 6)):
+        runs = runs_for(random, k, b, j)
+        table(k, runs, 0)
+        other = runs[random.below(b - 1)]
+        changed = (sorted([*runs[-1][:-1], p]) for p in range(k) if p not in runs[-1])
+        last = next(last for last in changed
+                    if ref.differences_differ(k, [last]) and not ref.differences_differ(k, [last, other]))
+        table(k, [last], 0)
+        table(k, runs[:-1] + [last], 5)
+    # The table of one branch, read as two: its first half and its second.
+    for k, j in ((993, 32), (307, 18), (57, 8)):
+        positions = positions_for(random, k, j)
+        table(k, [positions[:j // 2], positions[j // 2:]], 0)
+        table(k, [positions[:j // 2], positions[:j // 2]], 5)
+        table(k, [positions, positions], 5)
+
+
+@group("branches, lengths of lent buffers")
+def branches_lengths(pages, random):
+    """6: each buffer one symbol off, as long as one branch's, and as long as with another b."""
+    k, b, table = 13, 2, ref.table_of([0, 1, 4], [0, 2, 7])
+    for length in (0, 13, 25, 27, 39):
+        pages.encode(5, k, b, table, [0] * length, expect=6)
+    for length in (0, 13, 26, 38, 40, 52):
+        pages.encode(5, k, b, table, [0] * 26, page_len=length, expect=6)
+        pages.syndrome(5, k, b, table, [0] * length, expect=6)
+        pages.decode(5, k, b, table, [0] * length, [0], expect=6)
+    for length in (0, 12, 14, 26):
+        pages.syndrome(5, k, b, table, [0] * 39, syndrome_len=length, expect=6)
+    right = ref.decode_lengths(k, b)
+    for at, lengths in enumerate(((0, 13, 25, 27, 39), (0, 12, 14, 26), (0, 13, 25, 27, 39), (0, 52, 100, 108, 156))):
+        for length in lengths:
+            pages.decode(5, k, b, table, [0] * 39, [0], lengths=right[:at] + (length,) + right[at + 1:], expect=6)
+    # The lengths of eight branches, where there are seven.
+    table = ref.table_of(*[[0, d] for d in range(1, 8)])
+    pages.decode(5, 20, 7, table, [0] * 180, [0], lengths=ref.decode_lengths(20, 8), expect=6)
+    pages.decode(5, 20, 7, table, [0] * 160, [0], expect=0)
+    # A symbol that is q in each branch, first and last, and among the checks.
+    for place in (0, 19, 20, 39, 120, 139, 140, 159):
+        page = ref.symbols(160, {place: 5})
+        if place < 140:
+            pages.encode(5, 20, 7, table, page[:140], expect=7)
+        pages.syndrome(5, 20, 7, table, page, expect=7)
+        pages.decode(5, 20, 7, table, page, [0], expect=7)
+
+
+# The order in which refusals are tested.
+ORDER = (1, 2, 10, 3, 4, 5, 6, 7, 8, 9)
+
+
+def spoiled_branches(call, met):
+    """The tests and the arguments of a call with two branches, or nine, that meets these refusals. k is 40 and the runs
+    are 0, d for d from 1 up. With refusal 2 k is 4,097 and the lengths are still those of 40, so that 6 is met too."""
+    q = 2 if 1 in met else 5
+    b = 9 if 10 in met else 2
+    runs = [[0, d] for d in range(1, b + 1)]
+    if 3 in met:
+        runs = [list(range(33)) for _ in range(b)] if 4 in met or 5 in met else []
+    elif 5 in met:
+        runs = [[0, 1]] * b
+    if 4 in met:
+        runs[-1] = runs[-1][:-2] + runs[-1][:-3:-1]
+    k, lengths_k = (4097 if 2 in met else 40), 40
+    length = (b if call == ENCODE else b + 1) * lengths_k - (1 if 6 in met else 0)
+    symbols = [0] * length
+    if 7 in met:
+        symbols[-7] = 5
+    thresholds = [0] * (65 if 8 in met else 2)
+    if 9 in met:
+        thresholds[1] = 33
+    code = (q, k, b, ref.table_of(*runs))
+    if call == CHECK_TABLE:
+        return ref.table_tests(*code), code, {}
+    if call == ENCODE:
+        page_len = (b + 1) * lengths_k
+        return ref.encode_tests(*code, symbols, page_len), (*code, symbols), {"page_len": page_len}
+    if call == SYNDROME:
+        return ref.syndrome_tests(*code, symbols, lengths_k), (*code, symbols), {"syndrome_len": lengths_k}
+    lengths = ref.decode_lengths(lengths_k, b)
+    return (ref.decode_tests(*code, symbols, thresholds, *lengths), (*code, symbols, thresholds),
+            {"lengths": lengths})
+
+
+@group("branches, refusals in pairs and all together")
+def branches_pairs(pages, random):
+    """As the group of refusals in pairs, with 10 in its place."""
+    adders = {CHECK_TABLE: (5, pages.check_table), ENCODE: (7, pages.encode),
+              SYNDROME: (7, pages.syndrome), DECODE: (9, pages.decode)}
+    for call, (last, add) in adders.items():
+        numbers = ORDER[:ORDER.index(last) + 1]
+        sets = list(itertools.combinations(numbers, 2)) + [numbers[a:] for a in range(len(numbers) - 2)]
+        for met in sets:
+            tests, arguments, lengths = spoiled_branches(call, met)
+            applies = [number for number, test in tests if test()]
+            assert set(met) <= set(applies) and applies[0] == met[0]
+            add(*arguments, **lengths, expect=met[0])
+
+
+def branch_places(k, b, count, random):
+    """So many places of a page, some in each branch as far as they go, the others anywhere."""
+    order = random.some(range(b), min(b, count))
+    places = {r * k + random.below(k) for r in order}
+    while len(places) < count:
+        places.add(random.below((b + 1) * k))
+    return sorted(places)
+
+
+@group("branches, encode and syndrome")
+def branches_encode(pages, random):
+    for q, k, b, j in ((3, 1, 2, 1), (256, 1, 8, 1), (5, 2, 3, 1), (10, 5, 2, 2), (7, 13, 2, 3), (256, 13, 2, 3),
+                       (4, 15, 2, 3), (251, 17, 8, 2), (17, 40, 3, 4), (129, 156, 5, 6), (255, 400, 7, 8),
+                       (128, 57, 3, 3),
+                       (200, 512, 8, 7), (256, 1024, 4, 8), (251, 1024, 2, 8), (3, 819, 5, 10), (256, 2048, 2, 20),
+                       (251, 585, 7, 5), (100, 1365, 3, 3)):
+        table = ref.table_of(*runs_for(random, k, b, j))
+        pages.encode(q, k, b, table, random.symbols(q, b * k), expect=0)
+        if b * k < 3000:
+            pages.syndrome(q, k, b, table, random.symbols(q, (b + 1) * k), expect=0)
+    # The largest sums, and the largest and smallest values of a sum less a check.
+    for q, k, b, j in ((129, 400, 7, 8), (256, 512, 8, 7), (255, 1464, 2, 12)):
+        n = b * k
+        table = ref.table_of(*runs_for(random, k, b, j))
+        pages.encode(q, k, b, table, [q - 1] * n, expect=0)
+        pages.syndrome(q, k, b, table, [q - 1] * n + [0] * k, expect=0)
+        pages.syndrome(q, k, b, table, [0] * n + [q - 1] * k, expect=0)
+    # One branch not 0, each in turn: its place in the page and its run.
+    for r in range(5):
+        data = [0] * (5 * 31)
+        data[31 * r:31 * r + 31] = random.symbols(7, 31)
+        pages.encode(7, 31, 5, ref.table_of(*[[r, 5 + 2 * r] for r in range(5)]), data, expect=0)
+
+
+@group("branches, decode, clean pages")
+def branches_clean(pages, random):
+    for q, k, b, j, thresholds in ((3, 1, 2, 1, [0]), (256, 1, 8, 1, [32]), (10, 13, 2, 3, [0, 0]), (129, 156, 5, 6, [1]),
+                                   (256, 400, 3, 8, [3, 0]), (251, 512, 8, 5, [0]), (5, 2048, 2, 12, [2])):
+        runs = runs_for(random, k, b, j)
+        data = random.symbols(q, b * k)
+        got = pages.decode(q, k, b, ref.table_of(*runs), ref.code_word(q, k, runs, data), thresholds, expect=0)
+        assert got.result == data and got.counts == (1, 0, 0, 0)
+
+
+@group("branches, decode, damage inside the bound")
+def branches_inside(pages, random):
+    """As many symbols replaced as the bound allows, in every branch as far as they go; the data comes back."""
+    def inside(q, k, runs, thresholds, places):
+        assert 2 * len(places) + thresholds[0] <= len(runs[0])
+        data = random.symbols(q, len(runs) * k)
+        page = damaged(random, q, ref.code_word(q, k, runs, data), places)
+        got = pages.decode(q, k, len(runs), ref.table_of(*runs), page, thresholds, expect=0)
+        assert got.result == data
+
+    for q, k, b, j, first in ((3, 5, 2, 2, 0), (256, 13, 2, 3, 0), (5, 13, 2, 3, 1), (3, 40, 3, 4, 0), (251, 40, 2, 4, 2),
+                              (10, 156, 5, 6, 0), (256, 156, 4, 6, 2), (129, 400, 7, 8, 0), (4, 400, 7, 8, 4),
+                              (17, 585, 7, 8, 0), (255, 512, 8, 7, 0), (256, 512, 8, 7, 1), (3, 1024, 4, 12, 0),
+                              (251, 1024, 2, 15, 3), (256, 1365, 3, 16, 0), (100, 2048, 2, 21, 0), (5, 1464, 2, 12, 0)):
+        thresholds = [first] + random.symbols(5, random.below(4))
+        inside(q, k, runs_for(random, k, b, j), thresholds, branch_places(k, b, (j - first) // 2, random))
+    # One symbol of each branch in turn, first and last.
+    for r in range(7):
+        runs = runs_for(random, 31, 7, 2)
+        inside(7, 31, runs, [0], [31 * r])
+        inside(256, 31, runs, [0, 0], [31 * r + 30])
+    # All damage on one data symbol of the last branch and its own checks.
+    for q, k, b, j in ((3, 40, 3, 4), (256, 400, 7, 8), (251, 1024, 4, 12)):
+        runs = runs_for(random, k, b, j)
+        at = (b - 1) * k + random.below(k)
+        checks = [b * k + i for i in ref.checks_of(k, runs, at)]
+        inside(q, k, runs, [0, 0], [at] + checks[:j // 2 - 1])
+        inside(q, k, runs, [0, 0], checks[:j // 2])
+    # Symbols of two branches that share a check: check 0 is one of both.
+    for q, k, b, j in ((10, 156, 5, 6), (256, 400, 4, 8)):
+        runs = runs_for(random, k, b, j)
+        inside(q, k, runs, [0, 0], [r * k + -runs[r][0] % k for r in range(j // 2)])
+    # The widest runs that were found: J is the largest here with more than one branch.
+    k, runs = WIDEST
+    inside(256, k, runs, [0, 0, 0], branch_places(k, 2, len(runs[0]) // 2, random))
+
+
+@group("branches, decode, damage outside the bound")
+def branches_outside(pages, random):
+    """More symbols replaced than the bound allows: from one more to a quarter of the page."""
+    for q, k, b, j, share in ((3, 13, 2, 3, 0), (256, 13, 2, 3, 0), (10, 156, 5, 6, 0), (251, 400, 7, 8, 0),
+                              (256, 1024, 4, 12, 0), (5, 40, 3, 4, 16), (256, 156, 4, 6, 16), (129, 400, 3, 8, 16),
+                              (251, 512, 8, 7, 24), (256, 2048, 2, 16, 16), (3, 1464, 2, 12, 32), (16, 13, 2, 3, 4),
+                              (256, 40, 3, 4, 4), (3, 156, 5, 6, 4), (251, 400, 2, 8, 4), (200, 1024, 2, 12, 4)):
+        runs = runs_for(random, k, b, j)
+        count = (b + 1) * k // share if share else j // 2 + 1
+        thresholds = random.pick(([0] * 4, [2, 1, 0, 0, 0], [j // 2, 0, 0], [1] * 3, [0] * 12))
+        page = ref.code_word(q, k, runs, random.symbols(q, b * k))
+        page = damaged(random, q, page, branch_places(k, b, max(count, j // 2 + 1), random))
+        pages.decode(q, k, b, ref.table_of(*runs), page, thresholds, expect=0)
+    # The checks of one data symbol of the last branch moved together, so that it is changed though it was right.
+    for q, k, b, j in ((5, 40, 3, 4), (256, 156, 5, 6), (251, 400, 7, 8)):
+        runs = runs_for(random, k, b, j)
+        data = random.symbols(q, b * k)
+        page = ref.code_word(q, k, runs, data)
+        for i in ref.checks_of(k, runs, b * k - 1 - random.below(k))[:j // 2 + 1]:
+            page[b * k + i] = (page[b * k + i] + 3) % q
+        got = pages.decode(q, k, b, ref.table_of(*runs), page, [0], expect=0)
+        assert got.result != data and got.counts.end < got.counts.start
+
+
+@group("branches, decode, heavy damage")
+def branches_heavy(pages, random):
+    """Every symbol random."""
+    for q, k, b, j, thresholds in ((3, 1, 2, 1, [0, 0]), (256, 1, 8, 1, [0] * 3), (3, 2, 8, 1, [0] * 8),
+                                   (5, 5, 2, 2, [0] * 8), (3, 13, 2, 3, [0] * 16), (256, 13, 2, 3, [0] * 16),
+                                   (4, 40, 3, 4, [1, 0, 0]), (251, 17, 8, 2, [0] * 16), (10, 156, 5, 6, [0] * 16),
+                                   (3, 400, 7, 8, [0] * 32), (256, 400, 7, 8, [0] * 16), (129, 512, 8, 7, [0] * 8),
+                                   (7, 1024, 4, 12, [2, 1, 0, 0, 0]), (255, 1024, 2, 15, [0] * 32),
+                                   (3, 1464, 2, 12, [0] * 64), (251, 819, 5, 1, [0])):
+        table = ref.table_of(*runs_for(random, k, b, j))
+        pages.decode(q, k, b, table, random.symbols(q, (b + 1) * k), thresholds, expect=0)
+
+
+@group("branches, margins")
+def branches_margins(pages, random):
+    """Each value that the margins of a code can have, but for the lowest two, in every branch: S is 0 in the first half
+    and mostly 1 in the second, and a threshold of 32 leaves it. The lowest two are those of a symbol of branch 1 that was
+    changed and is to be changed back, by all J + 1 estimates or by all but one."""
+    for q, k, b, j in ((256, 512, 2, 4), (5, 512, 8, 4), (7, 1024, 3, 6)):
+        runs = greedy_runs(k, b, j)
+        s = [0 if i < k // 2 else 1 if random.below(6) else random.below(q) for i in range(k)]
+        page = [0] * (b * k) + [-x % q for x in s]
+        got = pages.decode(q, k, b, ref.table_of(*runs), page, [32], expect=0)
+        for r in range(b):
+            assert set(got.margins[r * k:(r + 1) * k]) >= set(range(-j + 1, j + 2)) - {j}
+    for q, k, positions in ((256, 512, [0, 1, 100, 300]), (251, 512, [0, 1, 20, 60])):
+        # Branch 0 holds only zeros, which stay.
+        runs = [[0, 7, 30, 81], positions]
+        back = [0] * k + turned_back(q, k, positions)
+        all_but_one = list(back)
+        all_but_one[2 * k + positions[-1]] = 1
+        for page, lowest in ((back, -5), (all_but_one, -4)):
+            got = pages.decode(q, k, 2, ref.table_of(*runs), page, [0], expect=0)
+            assert got.margins[k] == lowest
 
 
 def make():

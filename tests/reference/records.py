@@ -12,7 +12,7 @@ OPEN_GROUP, CHECK_TABLE, ENCODE, SYNDROME, DECODE = range(5)
 BEFORE, AFTER = 1, 2
 
 # What readers may rely on for the size of their buffers.
-MOST_STRING, MOST_RECORD = 16400, 40960
+MOST_TABLE, MOST_STRING, MOST_RECORD = 600, 16400, 40960
 
 
 def read(content):
@@ -61,41 +61,42 @@ class Pages:
         assert all(struct.unpack_from("<I", string)[0] <= MOST_STRING for string in strings)
         self.records.append(struct.pack("<I", len(record)) + record)
 
-    def _call(self, call, number, expect, numbers, strings):
+    def _call(self, call, number, expect, numbers, table, strings):
         assert expect in (None, number)
-        self._record(call, number, numbers, strings)
+        assert len(table) <= MOST_TABLE
+        self._record(call, number, numbers, [read(table), *strings])
         self.groups[-1][2] += 1
 
     # A function for each call. `expect` is the number that it is known to return.
 
-    def check_table(self, q, k, table, expect=None):
-        number = ref.check_table(q, k, table)
-        self._call(CHECK_TABLE, number, expect, [q, k], [read(table)])
+    def check_table(self, q, k, b, table, expect=None):
+        number = ref.check_table(q, k, b, table)
+        self._call(CHECK_TABLE, number, expect, [q, k, b], table, [])
 
-    def encode(self, q, k, table, data, page_len=None, expect=None):
-        page_len = 2 * k if page_len is None else page_len
-        number, page = ref.encode(q, k, table, data, page_len)
-        self._call(ENCODE, number, expect, [q, k], [read(table), read(data), lent(page_len, number, page)])
+    def encode(self, q, k, b, table, data, page_len=None, expect=None):
+        page_len = (b + 1) * k if page_len is None else page_len
+        number, page = ref.encode(q, k, b, table, data, page_len)
+        self._call(ENCODE, number, expect, [q, k, b], table, [read(data), lent(page_len, number, page)])
 
-    def syndrome(self, q, k, table, page, syndrome_len=None, expect=None):
+    def syndrome(self, q, k, b, table, page, syndrome_len=None, expect=None):
         syndrome_len = k if syndrome_len is None else syndrome_len
-        number, s = ref.syndrome(q, k, table, page, syndrome_len)
-        self._call(SYNDROME, number, expect, [q, k], [read(table), read(page), lent(syndrome_len, number, s)])
+        number, s = ref.syndrome(q, k, b, table, page, syndrome_len)
+        self._call(SYNDROME, number, expect, [q, k, b], table, [read(page), lent(syndrome_len, number, s)])
 
-    def decode(self, q, k, table, page, thresholds, lengths=None, expect=None):
+    def decode(self, q, k, b, table, page, thresholds, lengths=None, expect=None):
         """`lengths` are those of result, syndrome, difference and margins. Returns what the decode gave."""
-        lengths = ref.decode_lengths(k) if lengths is None else lengths
-        number, got = ref.decode(q, k, table, page, thresholds, *lengths)
+        lengths = ref.decode_lengths(k, b) if lengths is None else lengths
+        number, got = ref.decode(q, k, b, table, page, thresholds, *lengths)
         written = [None] * 5
         if number == 0:
-            written = [*got[:3], struct.pack(f"<{k}i", *got.margins), struct.pack("<4I", *got.counts)]
+            written = [*got[:3], struct.pack(f"<{b * k}i", *got.margins), struct.pack("<4I", *got.counts)]
         answers = [lent(length, number, content) for length, content in zip((*lengths, 16), written)]
-        self._call(DECODE, number, expect, [q, k], [read(table), read(page), read(thresholds), *answers])
+        self._call(DECODE, number, expect, [q, k, b], table, [read(page), read(thresholds), *answers])
         return got
 
-    def every_call(self, q, k, table, expect=None):
+    def every_call(self, q, k, b, table, expect=None):
         """All four calls, on symbols that are all 0."""
-        self.check_table(q, k, table, expect)
-        self.encode(q, k, table, [0] * k, expect=expect)
-        self.syndrome(q, k, table, [0] * (2 * k), expect=expect)
-        self.decode(q, k, table, [0] * (2 * k), [0], expect=expect)
+        self.check_table(q, k, b, table, expect)
+        self.encode(q, k, b, table, [0] * (b * k), expect=expect)
+        self.syndrome(q, k, b, table, [0] * ((b + 1) * k), expect=expect)
+        self.decode(q, k, b, table, [0] * ((b + 1) * k), [0], expect=expect)

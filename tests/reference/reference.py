@@ -1,14 +1,17 @@
-"""The page code and its decoder, as documents 01 and 02 (request N1) state them: clear rather than fast.
+"""The page code and its decoder, as documents 01 and 02 (requests N1 and N2) state them: clear rather than fast.
 
 Shares no code and no tables with the library. `check_table`, `encode`, `syndrome` and `decode` take what the C calls
 take, with the lengths of lent buffers in place of the buffers. They return the number and, at 0, what was written.
-Run as a program it tries itself on the worked cases of document 01.
+Elsewhere a code is q, k and its runs, a list of positions for each branch. Run as a program it tries itself on the
+worked cases of document 01 and on the codes of N2.
 """
 
+import functools
+import itertools
 from collections import Counter, namedtuple
 
-# A page's k up to which self-orthogonality is tested on all pairs of data symbols.
-ALL_PAIRS_K = 32
+# The number of data symbols up to which self-orthogonality is tested on all pairs of them.
+ALL_PAIRS = 32
 
 Counts = namedtuple("Counts", "passes changes start end")
 Decoded = namedtuple("Decoded", "result syndrome difference margins counts changes_of_pass")
@@ -21,26 +24,39 @@ def positions_of(table):
     return [table[i] + 256 * table[i + 1] for i in range(0, len(table) - 1, 2)]
 
 
-def table_of(positions):
+def runs_of(b, table):
+    """The b runs of a table, J positions each."""
+    positions = positions_of(table)
+    j = len(positions) // b
+    return [positions[r * j:(r + 1) * j] for r in range(b)]
+
+
+def table_of(*runs):
     """The bytes of a table."""
-    return bytes(b for p in positions for b in (p % 256, p // 256))
+    return bytes(byte for run in runs for p in run for byte in (p % 256, p // 256))
 
 
-def checks_of(k, positions, j):
-    """The checks that data symbol j is in."""
-    return [(j + p) % k for p in positions]
+def checks_of(k, runs, symbol):
+    """The checks that a data symbol is in. Symbol i of branch r has the number r * k + i."""
+    r, i = divmod(symbol, k)
+    return [(i + p) % k for p in runs[r]]
 
 
-def code_word(q, k, positions, data):
-    """The page: the data, then check i = the sum of data symbols (i - p) mod k over all positions p."""
-    checks = [sum(data[(i - p) % k] for p in positions) % q for i in range(k)]
-    return list(data) + checks
+def check_sum(q, k, runs, data, i):
+    """Check i: the sum of the data symbols (i - p) mod k of each branch over all positions p of its run."""
+    return sum(data[r * k + (i - p) % k] for r, run in enumerate(runs) for p in run) % q
 
 
-def syndrome_of(q, k, positions, page):
+def code_word(q, k, runs, data):
+    """The page: the data, branch after branch, then the checks."""
+    return list(data) + [check_sum(q, k, runs, data, i) for i in range(k)]
+
+
+def syndrome_of(q, k, runs, page):
     """Check by check: the sum of the received data symbols in it, minus the received check symbol."""
-    data, received = page[:k], page[k:]
-    return [(sum(data[(i - p) % k] for p in positions) - received[i]) % q for i in range(k)]
+    n = len(runs) * k
+    data, received = page[:n], page[n:]
+    return [(check_sum(q, k, runs, data, i) - received[i]) % q for i in range(k)]
 
 
 def distance(page, other):
@@ -48,29 +64,44 @@ def distance(page, other):
     return sum(a != b for a, b in zip(page, other))
 
 
-def shared(k, positions, j, l):
+def shared(k, runs, j, l):
     """How many checks two data symbols have in common."""
-    return len(set(checks_of(k, positions, j)) & set(checks_of(k, positions, l)))
+    return len(set(checks_of(k, runs, j)) & set(checks_of(k, runs, l)))
 
 
-def self_orthogonal_all_pairs(k, positions):
-    return all(shared(k, positions, j, l) <= 1 for j in range(k) for l in range(j))
+def self_orthogonal_all_pairs(k, runs):
+    n = len(runs) * k
+    return all(shared(k, runs, j, l) <= 1 for j in range(n) for l in range(j))
 
 
-def self_orthogonal_by_rotation(k, positions):
-    """Adding 1 to both j and l (mod k) adds 1 to all their checks, so j and l share as many checks as 0 and l - j do:
-    the pairs (0, l) stand for all."""
-    return all(shared(k, positions, 0, l) <= 1 for l in range(1, k))
+def self_orthogonal_by_rotation(k, runs):
+    """Adding 1 (mod k) to the index of j in its branch and to that of l in its own adds 1 to all their checks, and they
+    share as many as before: the pairs whose one symbol has index 0 in its branch stand for all."""
+    checks = [set(checks_of(k, runs, j)) for j in range(len(runs) * k)]
+    return all(len(checks[j] & checks[l]) <= 1
+               for j in range(0, len(checks), k) for l in range(len(checks)) if l != j)
 
 
-def self_orthogonal(k, positions):
-    """Any two different data symbols have at most one check in common."""
-    if k <= ALL_PAIRS_K:
-        return self_orthogonal_all_pairs(k, positions)
-    return self_orthogonal_by_rotation(k, positions)
+def differences_differ(k, runs):
+    """Are the values (a - c) mod k, over the ordered pairs of different positions of one run, all different, for all runs
+    together? For two branches as for one this is the same as self-orthogonal."""
+    values = [(a - c) % k for run in runs for a, c in itertools.permutations(run, 2)]
+    return len(set(values)) == len(values)
 
 
-# Refusals: one test a number. Each call makes those it has in the order of the numbers.
+@functools.lru_cache(maxsize=None)
+def _self_orthogonal(k, runs):
+    if len(runs) * k <= ALL_PAIRS:
+        return self_orthogonal_all_pairs(k, runs)
+    return self_orthogonal_by_rotation(k, runs)
+
+
+def self_orthogonal(k, runs):
+    """Any two different data symbols, of one branch or of two, have at most one check in common."""
+    return _self_orthogonal(k, tuple(tuple(run) for run in runs))
+
+
+# Refusals: one test a number. Each call makes those it has in this order: 1, 2, 10, 3, 4, .. 9.
 
 def bad_q(q):
     return not 3 <= q <= 256
@@ -80,51 +111,56 @@ def bad_k(k):
     return not 1 <= k <= 4096
 
 
-def bad_j(table):
-    return len(table) % 2 == 1 or not 1 <= len(table) // 2 <= 32
+def bad_b(k, b):
+    return not 1 <= b <= 8 or b * k > 4096
 
 
-def bad_position(k, positions):
-    return any(p >= k for p in positions) or any(b <= a for a, b in zip(positions, positions[1:]))
+def bad_j(b, table):
+    positions = len(table) // 2
+    return len(table) % 2 == 1 or positions % b != 0 or not 1 <= positions // b <= 32
+
+
+def bad_position(k, runs):
+    return any(p >= k for run in runs for p in run) or any(b <= a for run in runs for a, b in zip(run, run[1:]))
 
 
 def bad_symbol(q, symbols):
     return any(s >= q for s in symbols)
 
 
-def table_tests(q, k, table):
-    positions = positions_of(table)
+def table_tests(q, k, b, table):
     return [
         (1, lambda: bad_q(q)),
         (2, lambda: bad_k(k)),
-        (3, lambda: bad_j(table)),
-        (4, lambda: bad_position(k, positions)),
-        (5, lambda: not self_orthogonal(k, positions)),
+        (10, lambda: bad_b(k, b)),
+        (3, lambda: bad_j(b, table)),
+        (4, lambda: bad_position(k, runs_of(b, table))),
+        (5, lambda: not self_orthogonal(k, runs_of(b, table))),
     ]
 
 
-def encode_tests(q, k, table, data, page_len):
-    return table_tests(q, k, table) + [
-        (6, lambda: (len(data), page_len) != (k, 2 * k)),
+def encode_tests(q, k, b, table, data, page_len):
+    return table_tests(q, k, b, table) + [
+        (6, lambda: (len(data), page_len) != (b * k, (b + 1) * k)),
         (7, lambda: bad_symbol(q, data)),
     ]
 
 
-def syndrome_tests(q, k, table, page, syndrome_len):
-    return table_tests(q, k, table) + [
-        (6, lambda: (len(page), syndrome_len) != (2 * k, k)),
+def syndrome_tests(q, k, b, table, page, syndrome_len):
+    return table_tests(q, k, b, table) + [
+        (6, lambda: (len(page), syndrome_len) != ((b + 1) * k, k)),
         (7, lambda: bad_symbol(q, page)),
     ]
 
 
-def decode_lengths(k):
+def decode_lengths(k, b):
     """The lengths of result, syndrome, difference and margins that fit; a margin has 4 bytes."""
-    return k, k, k, 4 * k
+    return b * k, k, b * k, 4 * b * k
 
 
-def decode_tests(q, k, table, page, thresholds, *lengths):
-    return table_tests(q, k, table) + [
-        (6, lambda: len(page) != 2 * k or lengths != decode_lengths(k)),
+def decode_tests(q, k, b, table, page, thresholds, *lengths):
+    return table_tests(q, k, b, table) + [
+        (6, lambda: len(page) != (b + 1) * k or lengths != decode_lengths(k, b)),
         (7, lambda: bad_symbol(q, page)),
         (8, lambda: not 1 <= len(thresholds) <= 64),
         (9, lambda: any(t > 32 for t in thresholds)),
@@ -137,9 +173,9 @@ def first_that_applies(tests):
 
 # The decoder
 
-def estimates(k, positions, s, d, j):
+def estimates(k, runs, s, d, j):
     """The J + 1 estimates of data symbol j: d at j, and s at each check of j."""
-    return [d[j]] + [s[i] for i in checks_of(k, positions, j)]
+    return [d[j]] + [s[i] for i in checks_of(k, runs, j)]
 
 
 def lead(values):
@@ -157,17 +193,18 @@ def margin(values):
     return values.count(0) - max(others.values(), default=0)
 
 
-def run(q, k, positions, page, thresholds):
+def run(q, k, runs, page, thresholds):
     """All the passes. Returns result, S, D and the number of changes of each pass run."""
-    result = list(page[:k])
-    s = syndrome_of(q, k, positions, page)
-    d = [0] * k
+    n = len(runs) * k
+    result = list(page[:n])
+    s = syndrome_of(q, k, runs, page)
+    d = [0] * n
     changes_of_pass = []
     for threshold in thresholds:
         changes = 0
-        for j in range(k):
-            checks = checks_of(k, positions, j)
-            h0, ahead = lead(estimates(k, positions, s, d, j))
+        for j in range(n):
+            checks = checks_of(k, runs, j)
+            h0, ahead = lead(estimates(k, runs, s, d, j))
             if ahead > threshold and h0 != 0:
                 result[j] = (result[j] - h0) % q
                 d[j] = (d[j] - h0) % q
@@ -182,48 +219,52 @@ def run(q, k, positions, page, thresholds):
 
 # The calls
 
-def check_table(q, k, table):
-    return first_that_applies(table_tests(q, k, table))
+def check_table(q, k, b, table):
+    return first_that_applies(table_tests(q, k, b, table))
 
 
-def encode(q, k, table, data, page_len):
-    number = first_that_applies(encode_tests(q, k, table, data, page_len))
+def encode(q, k, b, table, data, page_len):
+    number = first_that_applies(encode_tests(q, k, b, table, data, page_len))
     if number:
         return number, None
-    return 0, code_word(q, k, positions_of(table), data)
+    return 0, code_word(q, k, runs_of(b, table), data)
 
 
-def syndrome(q, k, table, page, syndrome_len):
-    number = first_that_applies(syndrome_tests(q, k, table, page, syndrome_len))
+def syndrome(q, k, b, table, page, syndrome_len):
+    number = first_that_applies(syndrome_tests(q, k, b, table, page, syndrome_len))
     if number:
         return number, None
-    return 0, syndrome_of(q, k, positions_of(table), page)
+    return 0, syndrome_of(q, k, runs_of(b, table), page)
 
 
-def decode(q, k, table, page, thresholds, *lengths):
+def decode(q, k, b, table, page, thresholds, *lengths):
     """`lengths` are those of result, syndrome, difference and margins."""
-    number = first_that_applies(decode_tests(q, k, table, page, thresholds, *lengths))
+    number = first_that_applies(decode_tests(q, k, b, table, page, thresholds, *lengths))
     if number:
         return number, None
-    positions = positions_of(table)
+    runs = runs_of(b, table)
     page = list(page)
-    result, s, d, changes_of_pass = run(q, k, positions, page, thresholds)
-    margins = [margin(estimates(k, positions, s, d, j)) for j in range(k)]
+    data, received = page[:b * k], page[b * k:]
+    result, s, d, changes_of_pass = run(q, k, runs, page, thresholds)
+    margins = [margin(estimates(k, runs, s, d, j)) for j in range(b * k)]
     counts = Counts(
         passes=len(changes_of_pass),
         changes=sum(changes_of_pass),
-        start=distance(code_word(q, k, positions, page[:k]), page),
-        end=distance(code_word(q, k, positions, result), page))
+        start=distance(code_word(q, k, runs, data), page),
+        end=distance(code_word(q, k, runs, result), page))
 
     # What document 01 says of every decode.
-    assert result == [(a + b) % q for a, b in zip(page[:k], d)]
-    assert s == [(a - b) % q for a, b in zip(code_word(q, k, positions, result)[k:], page[k:])]
+    assert result == [(a + c) % q for a, c in zip(data, d)]
+    assert s == [(a - c) % q for a, c in zip(code_word(q, k, runs, result)[b * k:], received)]
     assert counts.end == sum(x != 0 for x in s + d)
     assert counts.end + sum(n * (t + 1) for n, t in zip(changes_of_pass, thresholds)) <= counts.start
+    assert counts.changes <= 64 * 4096 and counts.start <= 8192
     # What N1 says of every margin, and where it is J + 1.
-    most = len(positions) + 1
+    most = len(runs[0]) + 1
     assert all(-most <= m <= most for m in margins)
-    assert all((m == most) == (not any(estimates(k, positions, s, d, j))) for j, m in enumerate(margins))
+    assert all((m == most) == (not any(estimates(k, runs, s, d, j))) for j, m in enumerate(margins))
+    # What N2 says of the lengths.
+    assert (len(result), len(s), len(d), 4 * len(margins)) == decode_lengths(k, b)
     return 0, Decoded(result, s, d, margins, counts, changes_of_pass)
 
 
@@ -243,24 +284,24 @@ def page_a(data={}, checks={}):
 
 
 def decode_a(q, page, thresholds):
-    return decode(q, 13, CODE_A, page, thresholds, *decode_lengths(13))
+    return decode(q, 13, 1, CODE_A, page, thresholds, *decode_lengths(13, 1))
 
 
 def self_check():
     """Cases 1 to 14 in turn, by the numbers that document 01 states, then margins worked out by hand."""
     # 1, 2
-    assert check_table(256, 13, CODE_A) == 0
-    assert check_table(256, 12, CODE_A) == 5
-    assert check_table(256, 7, table_of([0, 1, 3])) == 0
-    assert check_table(256, 6, table_of([0, 1, 3])) == 5
+    assert check_table(256, 13, 1, CODE_A) == 0
+    assert check_table(256, 12, 1, CODE_A) == 5
+    assert check_table(256, 7, 1, table_of([0, 1, 3])) == 0
+    assert check_table(256, 6, 1, table_of([0, 1, 3])) == 5
     # 3
-    assert check_table(256, 1, table_of([0])) == 0
+    assert check_table(256, 1, 1, table_of([0])) == 0
     for symbol in range(256):
-        assert encode(256, 1, table_of([0]), [symbol], 2) == (0, [symbol, symbol])
+        assert encode(256, 1, 1, table_of([0]), [symbol], 2) == (0, [symbol, symbol])
     # 4, 5
-    assert encode(256, 13, CODE_A, symbols(13, {0: 7}), 26) == (
+    assert encode(256, 13, 1, CODE_A, symbols(13, {0: 7}), 26) == (
         0, page_a({0: 7}, {0: 7, 1: 7, 4: 7, 6: 7}))
-    assert encode(256, 13, CODE_A, symbols(13, {0: 10, 12: 250}), 26) == (
+    assert encode(256, 13, 1, CODE_A, symbols(13, {0: 10, 12: 250}), 26) == (
         0, page_a({0: 10, 12: 250}, {0: 4, 1: 10, 4: 10, 6: 10, 3: 250, 5: 250, 12: 250}))
     # 6 to 10: page, thresholds, then result, S, D, counts
     for page, thresholds, result, s, d, counts in [
@@ -274,11 +315,11 @@ def self_check():
         assert number == 0
         assert got[:3] == (symbols(13, result), symbols(13, s), symbols(13, d)) and got.counts == counts
     # 11
-    assert [check_table(q, 13, CODE_A) for q in (2, 3, 256, 257)] == [1, 0, 0, 1]
+    assert [check_table(q, 13, 1, CODE_A) for q in (2, 3, 256, 257)] == [1, 0, 0, 1]
     # 12
-    assert encode(5, 13, CODE_A, symbols(13, {3: 4}), 26)[0] == 0
-    assert encode(5, 13, CODE_A, symbols(13, {3: 5}), 26)[0] == 7
-    assert syndrome(5, 13, CODE_A, symbols(25, {3: 5}), 13)[0] == 6
+    assert encode(5, 13, 1, CODE_A, symbols(13, {3: 4}), 26)[0] == 0
+    assert encode(5, 13, 1, CODE_A, symbols(13, {3: 5}), 26)[0] == 7
+    assert syndrome(5, 13, 1, CODE_A, symbols(25, {3: 5}), 13)[0] == 6
     # 13
     assert [decode_a(5, page_a(), [0] * n)[0] for n in (64, 65)] == [0, 8]
     assert [decode_a(5, page_a(), [t])[0] for t in (32, 33)] == [0, 9]
@@ -297,14 +338,43 @@ def self_check():
                                       (page_a({0: 7}), [3, 2], [-3] + [3] * 12),
                                       (page_a({}, {2: 9}), [0], [3 if j in (1, 2, 9, 11) else 5 for j in range(13)])):
         assert decode_a(256, page, thresholds)[1].margins == margins
-    # The two tests of self-orthogonality are one.
+    branches_check()
+
+
+def branches_check():
+    """The codes that N2 names, a code of two branches by hand, and that all tests of self-orthogonality are one."""
+    assert check_table(256, 13, 2, table_of([0, 1], [0, 2])) == 0
+    assert check_table(256, 13, 2, table_of([0, 1], [0, 1])) == 5
+    # Both ends of b, and of b times k.
+    assert [check_table(256, 13, b, table_of(*[[0]] * b)) for b in range(10)] == [10] + [0] * 8 + [10]
+    assert [check_table(256, k, 2, table_of([0], [0])) for k in (2048, 2049)] == [0, 10]
+    # k = 13, runs 0, 1 and 0, 2: symbol 0 of branch 0 is in checks 0 and 1, symbol 12 of branch 1 in checks 12 and 1.
+    table = table_of([0, 1], [0, 2])
+    data = symbols(26, {0: 7, 13 + 12: 250})
+    checks = symbols(13, {0: 7, 1: 1, 12: 250})
+    assert encode(256, 13, 2, table, data, 39) == (0, data + checks)
+    assert syndrome(256, 13, 2, table, data + symbols(13, {0: 7, 1: 1}), 13) == (0, symbols(13, {12: 250}))
+    # A data symbol of branch 1 replaced: symbol 25 has estimates 0, 250, 250, lead 1; then d(25) = -250 alone is not 0.
+    page = symbols(26, {13 + 12: 250}) + [0] * 13
+    number, got = decode(256, 13, 2, table, page, [0, 0], *decode_lengths(13, 2))
+    assert number == 0 and got[:3] == ([0] * 26, [0] * 13, symbols(26, {25: 6})) and got.counts == (2, 1, 2, 1)
+    assert got.margins == [3] * 25 + [1]
+    # With threshold 1 it stays. Its checks are 12 and 1. Check 12 is also one of symbols 12, 11 of branch 0 and 10 of
+    # branch 1, check 1 one of symbols 1, 0 of branch 0 and 1 of branch 1.
+    number, got = decode(256, 13, 2, table, page, [1, 0], *decode_lengths(13, 2))
+    assert number == 0 and got.result == page[:26] and got.counts == (1, 0, 2, 2)
+    assert got.margins == [-1 if j == 25 else 1 if j in (0, 1, 11, 12, 13 + 1, 13 + 10) else 3 for j in range(26)]
+    # Runs of one branch of at most 14 symbols, and of two branches of at most 7: tested in three ways.
     for k in range(1, 15):
-        for bits in range(1, 2 ** k):
-            positions = [p for p in range(k) if bits >> p & 1]
-            if len(positions) <= 5:
-                assert self_orthogonal_all_pairs(k, positions) == self_orthogonal_by_rotation(k, positions)
+        runs = [[p for p in range(k) if bits >> p & 1] for bits in range(1, 2 ** k)]
+        codes = [[run] for run in runs if len(run) <= 5]
+        if k <= 7:
+            codes += [[one, other] for one in runs for other in runs if len(one) == len(other) <= 3]
+        for code in codes:
+            assert self_orthogonal_all_pairs(k, code) == self_orthogonal_by_rotation(k, code) == \
+                differences_differ(k, code)
 
 
 if __name__ == "__main__":
     self_check()
-    print("The worked cases of document 01 pass.")
+    print("The worked cases of document 01 and the codes of N2 pass.")

@@ -43,8 +43,8 @@ def damaged(page):
 def content():
     """The text, as bytes."""
     sent = [AT_EMPTY[j // 16] * (16 - j % 16) // 16 for j in range(K)]
-    page = damaged(ref.code_word(Q, K, POSITIONS, sent))
-    number, got = ref.decode(Q, K, ref.table_of(POSITIONS), page, THRESHOLDS, *ref.decode_lengths(K))
+    page = damaged(ref.code_word(Q, K, [POSITIONS], sent))
+    number, got = ref.decode(Q, K, 1, ref.table_of(POSITIONS), page, THRESHOLDS, *ref.decode_lengths(K, 1))
     assert number == 0
     stands = [standing(margin) for margin in got.margins]
 

@@ -45,24 +45,32 @@ fn symbols_line(case: u32, text: &[u8], symbols: &[u8]) {
 
 // Cases 1 and 2: tables.
 fn tables() {
-    number_line(1, b"k = 13:", table::check_table(256, 13, &A));
-    number_line(1, b"k = 12:", table::check_table(256, 12, &A));
-    number_line(2, b"k = 7:", table::check_table(256, 7, &[0, 1, 3]));
-    number_line(2, b"k = 6:", table::check_table(256, 6, &[0, 1, 3]));
+    number_line(1, b"k = 13:", table::check_table(256, 13, 1, &A));
+    number_line(1, b"k = 12:", table::check_table(256, 12, 1, &A));
+    number_line(2, b"k = 7:", table::check_table(256, 7, 1, &[0, 1, 3]));
+    number_line(2, b"k = 6:", table::check_table(256, 6, 1, &[0, 1, 3]));
 }
 
 // Case 3: k = 1, with a symbol 7.
 fn smallest_code() {
     let mut page = [0u8; 2];
-    number_line(3, b"table:", table::check_table(256, 1, &[0]));
-    number_line(3, b"encode:", page::encode(256, 1, &[0], &[7], &mut page));
+    number_line(3, b"table:", table::check_table(256, 1, 1, &[0]));
+    number_line(
+        3,
+        b"encode:",
+        page::encode(256, 1, 1, &[0], &[7], &mut page),
+    );
     symbols_line(3, b"page:", &page);
 }
 
 // Cases 4 and 5: data encoded by code A.
 fn show_encode(case: u32, data: &[u8]) {
     let mut page = [0u8; 26];
-    number_line(case, b"encode:", page::encode(256, 13, &A, data, &mut page));
+    number_line(
+        case,
+        b"encode:",
+        page::encode(256, 13, 1, &A, data, &mut page),
+    );
     symbols_line(case, b"data:", &page[0..13]);
     symbols_line(case, b"checks:", &page[13..26]);
 }
@@ -85,6 +93,7 @@ fn show_decode(case: u32, page: &[u8], thresholds: &[u8]) {
     let got = decoder::decode(
         256,
         13,
+        1,
         &A,
         page,
         thresholds,
@@ -142,6 +151,7 @@ fn decoded(q: u32, page: &[u8], thresholds: &[u8]) -> Decoded {
     decoder::decode(
         q,
         13,
+        1,
         &A,
         page,
         thresholds,
@@ -155,9 +165,9 @@ fn decoded(q: u32, page: &[u8], thresholds: &[u8]) -> Decoded {
 // The numbers of the table check, encode, syndrome and decode.
 fn print_calls(q: u32, data: &[u8], encoded: &mut [u8], page: &[u8]) {
     let mut s = [0u8; 13];
-    print_number(table::check_table(q, 13, &A));
-    print_number(page::encode(q, 13, &A, data, encoded));
-    print_number(page::syndrome(q, 13, &A, page, &mut s));
+    print_number(table::check_table(q, 13, 1, &A));
+    print_number(page::encode(q, 13, 1, &A, data, encoded));
+    print_number(page::syndrome(q, 13, 1, &A, page, &mut s));
     print_number(decoded(q, page, &[0]).number);
     print(b"\n");
 }
@@ -223,7 +233,11 @@ fn print_changes(page: &[u8], limit: u8) {
 // Any other symbol has at most one of these checks: its other estimates are 0, and it never changes.
 fn show_votes(page: &[u8], limit: u8) {
     let mut s = [0u8; 13];
-    number_line(14, b"syndrome:", page::syndrome(256, 13, &A, page, &mut s));
+    number_line(
+        14,
+        b"syndrome:",
+        page::syndrome(256, 13, 1, &A, page, &mut s),
+    );
     symbols_line(14, b"S:", &s);
     start_line(14, b"changes:");
     print_changes(page, limit);

@@ -125,9 +125,9 @@ impl Piece {
 
     // How many positions a table has.
     fn positions(self) -> usize
-        ensures { λ r. ⌜ r ≤ 40 ⌝ }
+        ensures { λ r. ⌜ r ≤ 300 ⌝ }
     {
-        if self.len < 80 { self.len / 2 } else { 40 }
+        if self.len < 600 { self.len / 2 } else { 300 }
     }
 
     // Where the record gives what the call must write; past its end where it gives nothing.
@@ -209,12 +209,12 @@ fn position_at(table: &[u8], at: usize) -> u16 {
 }
 
 // The positions in a table's bytes, 0 past their end.
-fn read_positions(table: &[u8]) -> [u16; 40]
-    ensures { λ r. ⌜ 40 ≡ length r ⌝ }
+fn read_positions(table: &[u8]) -> [u16; 300]
+    ensures { λ r. ⌜ 300 ≡ length r ⌝ }
 {
-    let mut positions = [0u16; 40];
+    let mut positions = [0u16; 300];
     let mut i = 0;
-    while i < 40 {
+    while i < 300 {
         positions[i] = position_at(table, 2 * i);
         i += 1;
     }
@@ -234,9 +234,13 @@ fn k_of(record: &[u8]) -> u32 {
     number_at(record, 20)
 }
 
-// Has the record q, k and so many strings, and nothing behind the last?
+fn b_of(record: &[u8]) -> u32 {
+    number_at(record, 24)
+}
+
+// Has the record q, k, b and so many strings, and nothing behind the last?
 fn is_whole(record: &[u8], strings: u32, last: Piece) -> bool {
-    number_at(record, 8) == 2
+    number_at(record, 8) == 3
         && number_at(record, 12) == strings
         && last.end(record) == record.len()
 }
@@ -245,17 +249,31 @@ fn is_whole(record: &[u8], strings: u32, last: Piece) -> bool {
 fn check_table_is_right(record: &[u8]) -> bool {
     let table = Piece::first(record);
     let positions = read_positions(table.content(record));
-    let j = table.positions();
-    let number = table::check_table(q_of(record), k_of(record), &positions[0..j]);
+    let n = table.positions();
+    let number = table::check_table(q_of(record), k_of(record), b_of(record), &positions[0..n]);
     number == returned(record) && is_whole(record, 1, table)
 }
 
 // Encode or syndrome, which take one input and one lent buffer.
 fn code(record: &[u8], positions: &[u16], input: &[u8], lent: &mut [u8]) -> u32 {
     if number_at(record, 0) == 2 {
-        return page::encode(q_of(record), k_of(record), positions, input, lent);
+        return page::encode(
+            q_of(record),
+            k_of(record),
+            b_of(record),
+            positions,
+            input,
+            lent,
+        );
     }
-    page::syndrome(q_of(record), k_of(record), positions, input, lent)
+    page::syndrome(
+        q_of(record),
+        k_of(record),
+        b_of(record),
+        positions,
+        input,
+        lent,
+    )
 }
 
 fn code_with(record: &[u8], lent: &mut [u8]) -> bool {
@@ -263,8 +281,8 @@ fn code_with(record: &[u8], lent: &mut [u8]) -> bool {
     let input = table.next(record);
     let output = input.next(record);
     let positions = read_positions(table.content(record));
-    let j = table.positions();
-    let number = code(record, &positions[0..j], input.content(record), lent);
+    let n = table.positions();
+    let number = code(record, &positions[0..n], input.content(record), lent);
     number == returned(record) && output.is_due(record, lent) && is_whole(record, 3, output)
 }
 
@@ -301,11 +319,12 @@ fn decode_with(
     let margins = difference.next(record);
     let counts = margins.next(record);
     let positions = read_positions(table.content(record));
-    let j = table.positions();
+    let n = table.positions();
     let got = decoder::decode(
         q_of(record),
         k_of(record),
-        &positions[0..j],
+        b_of(record),
+        &positions[0..n],
         page.content(record),
         thresholds.content(record),
         first,

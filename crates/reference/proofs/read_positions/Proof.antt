@@ -1,4 +1,4 @@
--- `read_positions`: the array keeps its length of 40, and the positions left are the measure.
+-- `read_positions`: the array keeps its length of 300, and the positions left are the measure.
 use mathlib.Core.Path.{_≡_}
 use Prim.Native.Nat.{_-_}
 use native.Mathlib.Omega.{arith}
@@ -8,10 +8,10 @@ use Rattle.reference.proofs.read_positions.Statement.{statement}
 use Rattle.reference.proofs.read_positions.Tie as tie
 
 abbrev Inv-loop : tie.InvT-loop
-Inv-loop table positions₀ i₀ positions i = 40 ≡ length positions
+Inv-loop table positions₀ i₀ positions i = 300 ≡ length positions
 
 abbrev μ-loop : tie.MeasureT-loop
-μ-loop table positions₀ i₀ positions i = 40 - i
+μ-loop table positions₀ i₀ positions i = 300 - i
 
 loop-holds : tie.Need-loop-holds Inv-loop μ-loop
 loop-holds c = search needs
