@@ -63,7 +63,14 @@ pub fn write_margins(
         let j = place.symbol;
         let first = place.first;
         let last = place.last;
-        margins[j] = margin_at(code, &positions[first..last], place.index, d[j], zeros[j], s);
+        margins[j] = margin_at(
+            code,
+            &positions[first..last],
+            place.index,
+            d[j],
+            zeros[j],
+            s,
+        );
         place = place.next(code.k);
     }
 }
@@ -94,7 +101,10 @@ pub fn fill(
     ensures { λ _. ⌜ ((r : List ℕ) → now (margins .exit) ≡ marginsOf (codeBy code (now (positions .entry))) (stateBy r (now (s .entry)) (now (d .entry)))) ⌝ }
 {
     if end == 0 {
-        write_firm((params::checks_each(code, positions.len()) + 1) as u8, margins);
+        write_firm(
+            (params::checks_each(code, positions.len()) + 1) as u8,
+            margins,
+        );
     } else {
         let n = params::data_count(code);
         write_margins(code, positions, &zeros[..n], s, d, margins);

@@ -1,4 +1,5 @@
 // What the C calls read and write as bytes, low byte first: the positions of a table, the margins and the counts of a decode.
+use checks::Place;
 use params::Params;
 ghost use mathlib.Core.Path.{_≡_};
 ghost use mathlib.Core.List.{List, map};
@@ -11,7 +12,7 @@ ghost use Rattle.model.specs.Code.{dataCount};
 ghost use Rattle.model.specs.Decoder.{stateBy, marginsOf};
 ghost use Rattle.model.specs.Symbols.{tabulate};
 ghost use Rattle.params.specs.Codes.{codeBy};
-ghost use Rattle.checks.specs.Checks.{AtChecks};
+ghost use Rattle.checks.specs.Places.{AtTable};
 ghost use Rattle.zeros.specs.Counts.{zeroCounts};
 ghost use Rattle.margins.specs.Margins.{Left};
 ghost use Rattle.octets.specs.Positions.{kept};
@@ -84,17 +85,27 @@ fn twos_of(x: i32) -> u32
 
 // Four bytes for the margin of every data symbol, from S and D and the zeros at the checks of each.
 fn write_margins(code: Params, positions: &[u16], zeros: &[u8], s: &[u8], d: &[u8], out: &mut [u8])
-    requires { ⌜ AtChecks (codeBy code (now positions)) (now s)
+    requires { ⌜ AtTable (codeBy code (now positions)) (now s)
         × (now zeros ≡ zeroCounts (codeBy code (now positions)) (now s))
         × (length (now d) ≡ dataCount (codeBy code (now positions)))
         × (length (now out) ≡ 4 * dataCount (codeBy code (now positions))) ⌝ }
     ensures { λ _. ⌜ ((r : List ℕ) → now (out .exit) ≡ marginBytes (marginsOf (codeBy code (now (positions .entry))) (stateBy r (now (s .entry)) (now (d .entry))))) ⌝ }
 {
-    let mut j = 0;
-    while j < d.len() {
-        let m = margins::margin_at(code, positions, j, d[j], zeros[j], s);
+    let mut place = Place::start(params::checks_each(code, positions.len()));
+    while place.symbol < d.len() {
+        let j = place.symbol;
+        let first = place.first;
+        let last = place.last;
+        let m = margins::margin_at(
+            code,
+            &positions[first..last],
+            place.index,
+            d[j],
+            zeros[j],
+            s,
+        );
         put_word(out, 4 * j, twos_of(m));
-        j += 1;
+        place = place.next(code.k);
     }
 }
 
@@ -123,10 +134,11 @@ pub fn put_margins(
     requires { ⌜ Left (codeBy code (now positions)) (now s) (now d) (now zeros) end × (length (now out) ≡ 4 * dataCount (codeBy code (now positions))) ⌝ }
     ensures { λ _. ⌜ ((r : List ℕ) → now (out .exit) ≡ marginBytes (marginsOf (codeBy code (now (positions .entry))) (stateBy r (now (s .entry)) (now (d .entry))))) ⌝ }
 {
-    let k = code.k;
+    let n = params::data_count(code);
     if end == 0 {
-        write_firm((positions.len() + 1) as u32, k, out);
+        let each = params::checks_each(code, positions.len());
+        write_firm((each + 1) as u32, n, out);
     } else {
-        write_margins(code, positions, &zeros[..k], s, d, out);
+        write_margins(code, positions, &zeros[..n], s, d, out);
     }
 }

@@ -59,7 +59,12 @@ pub fn count_zeros(code: Params, positions: &[u16], s: &[u8], zeros: &mut [u8])
     let mut at = 0;
     let mut r = 0;
     while r < code.b {
-        count_run(code, &positions[from..from + each], s, &mut zeros[at..at + k]);
+        count_run(
+            code,
+            &positions[from..from + each],
+            s,
+            &mut zeros[at..at + k],
+        );
         from += each;
         at += k;
         r += 1;
@@ -108,7 +113,14 @@ fn write_check(
     let mut at = 0;
     let mut r = 0;
     while r < code.b {
-        recount_run(code, &positions[from..from + each], c, gained, lost, &mut zeros[at..at + k]);
+        recount_run(
+            code,
+            &positions[from..from + each],
+            c,
+            gained,
+            lost,
+            &mut zeros[at..at + k],
+        );
         from += each;
         at += k;
         r += 1;

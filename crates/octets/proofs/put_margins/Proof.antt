@@ -1,41 +1,55 @@
--- `put_margins`: at distance 0 every margin is J + 1, else the zeros are counted and each margin is written by them.
+-- `put_margins`: at distance 0 every margin is J + 1, else each is written by the zeros at its symbol's checks.
 use borrow.Author.Needs.{needs}
-use mathlib.Core.Path.{refl, sym, _∙_, ap}
+use mathlib.Core.Path.{_≡_, sym, _∙_, ap}
+use mathlib.Core.List.{List, map}
+use Prim.Native.Nat.{ℕ, _+_, _*_}
 use native.Mathlib.Omega.{arith}
+use lib.IntN.{pos, _-ℤ_}
+use lib.ListN.{take}
 use lib.Seq.{length-take-le}
 use Rattle.model.specs.Bytes.{marginBytes}
 use Rattle.model.specs.Decoder.{stateBy}
+use Rattle.model.specs.Symbols.{tabulate}
 use Rattle.params.specs.Codes.{codeBy}
 use Rattle.theory.specs.Steps.{stateWeight}
 use Rattle.margins.specs.Margins.{margins-firm}
 use Rattle.octets.proofs.put_margins.Statement.{statement}
 use Rattle.octets.proofs.put_margins.Tie as tie
 
--- the start, from the two ways
-abbrev firm : tie.Then1 → tie.Start
-firm c = c .before .before .before .before .before .before
+-- the start, from where the data symbols are counted
+abbrev start : tie.After-data-count → tie.Start
+start c = c .before .before .before .before .before .before
 
-abbrev other : tie.Else1 → tie.Start
-other c = c .before .before .before .before .before .before
+data-count-requires : tie.Need-data-count-requires
+data-count-requires c κs = omega (arith, c .before .before .before .before .before .pre .0 .checks .table .sizes .data-high)
+
+checks-each-requires : tie.Need-checks-each-requires
+checks-each-requires c κs = start (c .before) .pre .0 .checks .table .sizes .b-low
 
 add-write-firm : tie.Need-add-write-firm
-add-write-firm c = let b = firm c in omega (arith, b .pre .0 .checks .table .J-high)
+add-write-firm c = omega (arith, c .checks-each .ensures, start (c .before .before) .pre .0 .checks .table .sizes .J-high)
 
 cast-write-firm : tie.Need-cast-write-firm
-cast-write-firm c = let b = firm c in omega (arith, b .pre .0 .checks .table .J-high)
+cast-write-firm c = omega (arith, c .checks-each .ensures, start (c .before .before) .pre .0 .checks .table .sizes .J-high)
 
 write-firm-requires : tie.Need-write-firm-requires
-write-firm-requires c κs = let b = firm (c .before) in (b .pre .0 .checks .table .k-high, b .pre .1)
+write-firm-requires c κs =
+    let n = c .before .before .before in
+    let p = start n .pre in
+    (omega (arith, n .data-count .ensures, p .0 .checks .table .sizes .data-high), p .1 ∙ ap (λ (m : ℕ). 4 * m) (sym (n .data-count .ensures)))
 
 slice-aggregate-write-margins : tie.Need-slice-aggregate-write-margins
-slice-aggregate-write-margins c = let b = other (c .before) in sym (length-take-le (b .args .code .k) (b .args .zeros .now) (b .pre .0 .room))
+slice-aggregate-write-margins c =
+    let n = c .before .before in
+    sym (length-take-le _ _ (omega (arith, n .data-count .ensures, start n .pre .0 .room)))
 
 write-margins-requires : tie.Need-write-margins-requires
 write-margins-requires c κs =
     let e = c .before .before in
-    let b = other e in
+    let n = e .before in
+    let b = start n in
     let l = b .pre .0 in
-    (l .checks, l .counted (e .if1 .left), l .len-difference, b .pre .1)
+    (l .checks, ap (λ (m : ℕ). take m (b .args .zeros .now)) (n .data-count .ensures) ∙ l .counted (e .if1 .left), l .len-difference, b .pre .1)
 
 same-length : tie.Need-same-length
 same-length c = search needs
@@ -44,11 +58,14 @@ returns : tie.Need-returns
 unfolding stateWeight
 returns c r =
     let w = c .before .before in
-    let t = w .before .before in
-    let b = firm t in
+    let k = w .before .before in
+    let t = k .before in
+    let n = t .before in
+    let b = start n in
     let a = b .args in
-    w .write-firm .ensures
-    ∙ ap marginBytes (margins-firm (codeBy (a .code) (a .positions .now)) (stateBy r (a .s .now) (a .d .now)) _ refl (sym (b .pre .0 .weighed) ∙ t .if1 .taken))
+    w .write-firm .ensures ∙ ap (λ (m : ℕ). marginBytes (map (λ j. pos (k .checks-each .result + 1) -ℤ pos 0) (tabulate m (λ j. j)))) (n .data-count .ensures)
+    ∙ ap marginBytes (margins-firm (codeBy (a .code) (a .positions .now)) (b .pre .0 .checks .table) (stateBy r (a .s .now) (a .d .now)) _ (ap (λ (m : ℕ). m + 1) (k .checks-each .ensures))
+    (sym (b .pre .0 .weighed) ∙ t .if1 .taken))
 
 same-length-2 : tie.Need-same-length-2
 same-length-2 c = search needs
@@ -60,6 +77,8 @@ pub put-margins-spec : {M : Type 1} → statement M
 put-margins-spec =
     tie.close
     (tie.spec
+    data-count-requires
+    checks-each-requires
     add-write-firm
     cast-write-firm
     write-firm-requires

@@ -1,20 +1,21 @@
--- `write_margins`: the bytes of the first j margins are written, each by its symbol's estimates, and so all.
+-- `write_margins`: the bytes of the margins of the symbols before the place are written, each by its symbol's estimates, and so all.
 use borrow.Author.Needs.{needs}
-use mathlib.Core.Path.{_∙_, ap}
+use mathlib.Core.Path.{_≡_, _∙_, ap}
 use mathlib.Core.List.{List, map}
-use Prim.Native.Nat.{ℕ, _-_, _<_}
+use Prim.Native.Nat.{ℕ, _+_, _-_, _<_}
 use native.Mathlib.Omega.{arith}
 use lib.IntN.{ℤ}
 use lib.ListN.{length, getD}
 use Rattle.model.specs.Bytes.{twos, marginBytes}
-use Rattle.model.specs.Code.{Code}
+use Rattle.model.specs.Code.{Code, dataCount}
 use Rattle.model.specs.Decoder.{estimates, marginsOf}
 use Rattle.model.specs.Symbols.{tabulate}
 use Rattle.model.specs.Vote.{margin}
 use Rattle.params.specs.Codes.{codeBy}
-use Rattle.checks.specs.Checks.{estimatesAt}
-use Rattle.zeros.specs.Counts.{length-zeroCounts, zeroCounts-at}
-use Rattle.margins.specs.Margins.{read-back}
+use Rattle.checks.specs.Places.{Walk, walk-first, walk-placed, walk-next, Found, found, next-fits}
+use Rattle.visits.specs.Estimates.{estimatesAt}
+use Rattle.zeros.specs.Counts.{length-zeroCounts}
+use Rattle.margins.specs.Margins.{placed-zeros, placed-margin, read-back}
 use Rattle.octets.specs.Words.{Front, front-none, front-turn, front-all}
 use Rattle.octets.proofs.write_margins.Statement.{statement}
 use Rattle.octets.proofs.write_margins.Tie as tie
@@ -24,69 +25,117 @@ abbrev each : Code → List ℕ → List ℕ → ℕ → ℤ
 each c s d i = margin (estimatesAt c i (getD d i 0) s)
 
 abbrev Inv-loop : tie.InvT-loop
-Inv-loop code positions zeros s d out₀ j₀ out j = Front (each (codeBy code positions) s d) (length d) out j
+Inv-loop code positions zeros s d out₀ place₀ out place =
+    Walk (codeBy code positions) place × Front (each (codeBy code positions) s d) (length d) out (place .symbol)
 
 abbrev μ-loop : tie.MeasureT-loop
-μ-loop code positions zeros s d out₀ j₀ out j = length d - j
+μ-loop code positions zeros s d out₀ place₀ out place = length d - place .symbol
 
+-- the start, seen from the loop, and the code
 abbrev start : tie.At-loop Inv-loop μ-loop → tie.Start Inv-loop μ-loop
-start c = c .before .before .before .before .before .before
+start c = c .before .before .before .before .before .before .before .before
+
+abbrev codeAt : tie.At-loop Inv-loop μ-loop → Code
+codeAt c = codeBy (start c .args .code) (start c .args .positions .now)
+
+-- a symbol is next, and what its place is good for
+inside : (c : tie.Then1 Inv-loop μ-loop) → c .before .before .loop .place .symbol < dataCount (codeAt (c .before .before))
+inside c = let l = c .before .before in omega (arith, start l .pre .2, c .if1 .taken)
+
+place : (c : tie.Then1 Inv-loop μ-loop) → Found (codeAt (c .before .before)) (start (c .before .before) .args .s .now) (c .before .before .loop .place)
+place c = let l = c .before .before in found (start l .pre .0) (walk-placed (l .loop .inv .0) (inside c))
+
+checks-each-requires : tie.Need-checks-each-requires Inv-loop μ-loop
+checks-each-requires c κs = c .before .before .before .before .before .pre .0 .table .sizes .b-low
+
+start-requires : tie.Need-start-requires Inv-loop μ-loop
+start-requires c κs = tt
 
 loop-holds : tie.Need-loop-holds Inv-loop μ-loop
-loop-holds c = let b = c .before .before .before .before .before in front-none _ _ _ (omega (arith, b .pre .2, b .pre .3))
+loop-holds c =
+    let e = c .start .ensures in
+    let b = c .before .before .before .before .before .before .before in
+    (walk-first _ (b .pre .0 .table) _ _ (c .before .checks-each .ensures) e, rw e (front-none _ _ _ (omega (arith, b .pre .2, b .pre .3))))
+
+mul-margin-at : tie.Need-mul-margin-at Inv-loop μ-loop
+mul-margin-at c = omega (arith, place c .few, place c .first-last)
+
+sub-margin-at : tie.Need-sub-margin-at Inv-loop μ-loop
+sub-margin-at c = place c .first-last
+
+part-margin-at-start : tie.Need-part-margin-at-start Inv-loop μ-loop
+part-margin-at-start c = place c .first-last
+
+part-margin-at-end : tie.Need-part-margin-at-end Inv-loop μ-loop
+part-margin-at-end c = place c .last-in
 
 shared-slice-read-margin-at : tie.Need-shared-slice-read-margin-at Inv-loop μ-loop
-shared-slice-read-margin-at c = omega arith
+shared-slice-read-margin-at c = c .before .before .if1 .taken
 
 shared-slice-read-margin-at-2 : tie.Need-shared-slice-read-margin-at-2 Inv-loop μ-loop
 shared-slice-read-margin-at-2 c =
-    let b = start (c .before .before .before) in
-    omega (arith, b .pre .2, ap length (b .pre .1), length-zeroCounts (codeBy (b .args .code) (b .args .positions .now)) (b .args .s .now))
+    let t = c .before .before .before in
+    let b = start (t .before .before) in
+    omega (arith, inside t, ap length (b .pre .1), length-zeroCounts (codeAt (t .before .before)) (b .args .s .now))
 
 margin-at-requires : tie.Need-margin-at-requires Inv-loop μ-loop
 margin-at-requires c κs =
-    let l = c .before .before .before in
-    let b = start l in
-    let a = b .args in
-    let h : l .loop .j < a .code .k = omega (arith, b .pre .2) in
-    (b .pre .0, h, ap (λ (z : List ℕ). getD z (l .loop .j) 0) (b .pre .1) ∙ zeroCounts-at (codeBy (a .code) (a .positions .now)) (a .s .now) (l .loop .j) h)
+    let t = c .before .before .before in
+    let g = place t in
+    (g .checks-lent, g .index-low, placed-zeros g (inside t) _ (start (t .before .before) .pre .1))
 
 mul-put-word : tie.Need-mul-put-word Inv-loop μ-loop
 mul-put-word c =
-    let b = start (c .before .before .before .before .before) in
-    omega (arith, b .pre .2, b .pre .0 .table .k-high)
+    let t = c .before .before .before .before .before in
+    omega (arith, inside t, start (t .before .before) .pre .0 .table .sizes .data-high)
 
 twos-of-requires : tie.Need-twos-of-requires Inv-loop μ-loop
 twos-of-requires c κs = search needs
 
 put-word-requires : tie.Need-put-word-requires Inv-loop μ-loop
-put-word-requires c κs = let l = c .before .before .before .before .before .before in omega (arith, l .loop .inv .len)
+put-word-requires c κs =
+    let t = c .before .before .before .before .before .before in
+    omega (arith, t .before .before .loop .inv .1 .len, t .if1 .taken)
 
-add-j : tie.Need-add-j Inv-loop μ-loop
-add-j c = omega arith
+next-requires : tie.Need-next-requires Inv-loop μ-loop
+next-requires c κs =
+    let t = c .before .before .before .before .before .before .before .before .before in
+    let l = t .before .before in
+    next-fits (start l .pre .0 .table) (walk-placed (l .loop .inv .0) (inside t)) (place t)
+
+-- the next place
+next-place : (c : tie.After-next Inv-loop μ-loop) → (c .next .result .symbol ≡ c .before .before .before .before .before .before .before .before .before .before .before .before .loop .place .symbol + 1) × Walk (codeAt (c .before .before .before .before .before .before .before .before .before .before .before .before)) (c .next .result)
+next-place c =
+    let t = c .before .before .before .before .before .before .before .before .before .before in
+    let l = t .before .before in
+    walk-next (l .loop .inv .0) (start l .pre .0 .table) (inside t) _ (c .next .ensures)
 
 loop-less : tie.Need-loop-less Inv-loop μ-loop
-loop-less c = omega arith
+loop-less c = omega (arith, next-place c .0, c .before .before .before .before .before .before .before .before .before .before .if1 .taken)
 
 loop-again : tie.Need-loop-again Inv-loop μ-loop
 loop-again c =
-    let put = c .before .before in
-    let t = put .before in
-    let m = t .before .before in
-    let l = m .before .before .before .before in
-    front-turn _ _ _ _ (l .loop .inv) (omega arith) _ _ (t .twos-of .ensures ∙ ap twos (read-back _ (m .margin-at .ok) ∙ m .margin-at .ensures)) (put .put-word .ensures)
+    let put = c .before .before .before in
+    let w = put .before in
+    let m = w .before .before in
+    let t = m .before .before .before .before in
+    let n = next-place c in (
+      n .1,
+      rw (n .0) (front-turn _ _ _ _ (t .before .before .loop .inv .1) (t .if1 .taken) _ _
+          (w .twos-of .ensures ∙ ap twos (read-back _ (m .margin-at .ok) ∙ placed-margin (place t) _ _ (m .margin-at .ensures))) (put .put-word .ensures)),
+    )
 
 same-length : tie.Need-same-length Inv-loop μ-loop
-same-length c = let l = c .before in let b = start l in omega (arith, l .loop .inv .len, b .pre .2, b .pre .3)
+same-length c = let l = c .before .before in let b = start l in omega (arith, l .loop .inv .1 .len, b .pre .2, b .pre .3)
 
 returns : tie.Need-returns Inv-loop μ-loop
 unfolding marginsOf estimates
 returns c r =
-    let l = c .before in
+    let l = c .before .before in
     let b = start l in
     let a = b .args in
-    let f = each (codeBy (a .code) (a .positions .now)) (a .s .now) (a .d .now) in
-    front-all _ _ _ _ (l .loop .inv) (omega arith) ∙ ap (λ (n : ℕ). marginBytes (map f (tabulate n (λ i. i)))) (b .pre .2)
+    let f = each (codeAt l) (a .s .now) (a .d .now) in
+    front-all _ _ _ _ (l .loop .inv .1) (omega (arith, c .if1 .left)) ∙ ap (λ (n : ℕ). marginBytes (map f (tabulate n (λ i. i)))) (b .pre .2)
 
 pub write-margins-spec : {M : Type 1} → statement M
 write-margins-spec =
@@ -94,14 +143,20 @@ write-margins-spec =
     (tie.spec
     Inv-loop
     μ-loop
+    checks-each-requires
+    start-requires
     loop-holds
+    mul-margin-at
+    sub-margin-at
+    part-margin-at-start
+    part-margin-at-end
     shared-slice-read-margin-at
     shared-slice-read-margin-at-2
     margin-at-requires
     mul-put-word
     twos-of-requires
     put-word-requires
-    add-j
+    next-requires
     loop-less
     loop-again
     same-length
