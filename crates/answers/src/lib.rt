@@ -2,7 +2,7 @@
 use params::Params;
 ghost use mathlib.Core.Path.{_≡_};
 ghost use mathlib.Core.Bool.{_&&_};
-ghost use Prim.Native.Nat.{_+_};
+ghost use Prim.Native.Nat.{_+_, _*_};
 ghost use lib.Dec.{eqb};
 ghost use Rattle.model.specs.Calls.{firstThatApplies, pageTests, thresholdTests, decodeAnswer};
 ghost use Rattle.params.specs.Codes.{codeBy};
@@ -15,6 +15,16 @@ pub fn two_fit(a: usize, m: usize, b: usize, n: usize) -> bool
         return false;
     }
     b == n
+}
+
+// The lengths of the margins' bytes, four for each of n margins, and of the 16 count bytes are as the C form of decode needs them.
+pub fn bytes_fit(margins: usize, n: usize, counts: usize) -> bool
+    ensures { λ r. ⌜ r ≡ (eqb margins (4 * n) && eqb counts 16) ⌝ }
+{
+    if margins % 4 != 0 {
+        return false;
+    }
+    two_fit(margins / 4, n, counts, 16)
 }
 
 // The lengths of the page and of the three lent buffers are as decode needs them, with n data symbols and k checks,

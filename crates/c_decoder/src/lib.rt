@@ -10,6 +10,7 @@ ghost use Rattle.model.specs.Demand.{DecodeFalls, DecodeRecovers};
 pub fn decode(
     q: u32,
     k: u32,
+    b: u32,
     table: &[u8],
     page: &[u8],
     thresholds: &[u8],
@@ -26,16 +27,20 @@ pub fn decode(
         margins = now (margins .exit);
         counts = now (counts .exit);
       };
-    } ≡ cDecodeOutcome (codeOf q k (positionsOf (now (table .entry)))) (now (page .entry)) (now (thresholds .entry))
+    } ≡ cDecodeOutcome (codeOf q k b (positionsOf (now (table .entry)))) (now (page .entry)) (now (thresholds .entry))
         (stateBy (now (result .entry)) (now (syndrome .entry)) (now (difference .entry))) (now (margins .entry)) (now (counts .entry)) ⌝ }
-    ensures falling { λ r. ⌜ (r ≡ 0 → DecodeFalls (codeOf q k (positionsOf (now (table .entry)))) (now (thresholds .entry)) (now (page .entry))
-        (decodedCounts (codeOf q k (positionsOf (now (table .entry)))) (now (thresholds .entry)) (now (page .entry)))) ⌝ }
-    ensures recovery { λ r. ⌜ (r ≡ 0 → DecodeRecovers (codeOf q k (positionsOf (now (table .entry)))) (now (thresholds .entry)) (now (page .entry)) (now (result .exit))) ⌝ }
+    ensures falling { λ r. ⌜ (r ≡ 0 → DecodeFalls (codeOf q k b (positionsOf (now (table .entry)))) (now (thresholds .entry)) (now (page .entry))
+        (decodedCounts (codeOf q k b (positionsOf (now (table .entry)))) (now (thresholds .entry)) (now (page .entry)))) ⌝ }
+    ensures recovery { λ r. ⌜ (r ≡ 0 → DecodeRecovers (codeOf q k b (positionsOf (now (table .entry)))) (now (thresholds .entry)) (now (page .entry)) (now (result .exit))) ⌝ }
 {
-    let mut positions = [0u16; 32];
+    let mut positions = [0u16; 256];
     let n = octets::read_positions(table, &mut positions);
-    let code = Params { q, k: k as usize };
-    if k <= 128 {
+    let code = Params {
+        q,
+        k: k as usize,
+        b: b as usize,
+    };
+    if params::data_count(code) <= 128 {
         let mut few = [0u8; 128];
         return c_receiver::decode_into(
             code,

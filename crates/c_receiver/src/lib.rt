@@ -1,7 +1,7 @@
 // The C form of decode with a buffer for the zeros lent: margins and counts are written as bytes.
 use params::Params;
 ghost use mathlib.Core.Path.{_≡_};
-ghost use Prim.Native.Nat.{_≤_};
+ghost use Prim.Native.Nat.{_*_, _≤_};
 ghost use lib.ListN.{length};
 ghost use Rattle.model.specs.Decoder.{stateBy, decodedCounts};
 ghost use Rattle.model.specs.Bytes.{cDecodeOutcome};
@@ -21,7 +21,7 @@ pub fn decode_into(
     margins: &mut [u8],
     counts: &mut [u8],
 ) -> u32
-    requires { ⌜ (code .k ≤ 4294967295) × (code .k ≤ 4096 → code .k ≤ length (now zeros)) ⌝ }
+    requires { ⌜ (code .k ≤ 4294967295) × (code .b ≤ 4294967295) × (code .b * code .k ≤ 4096 → code .b * code .k ≤ length (now zeros)) ⌝ }
     ensures outcome { λ r. ⌜ record {
       number = r;
       left = record {
@@ -35,8 +35,8 @@ pub fn decode_into(
         (decodedCounts (codeBy code (now (positions .entry))) (now (thresholds .entry)) (now (page .entry)))) ⌝ }
     ensures recovery { λ r. ⌜ (r ≡ 0 → DecodeRecovers (codeBy code (now (positions .entry))) (now (thresholds .entry)) (now (page .entry)) (now (result .exit))) ⌝ }
 {
-    let k = code.k;
-    let others = answers::two_fit(margins.len(), 4 * k, counts.len(), 16);
+    let n = params::data_count(code);
+    let others = answers::bytes_fit(margins.len(), n, counts.len());
     let decoded = receiver::decode_with(
         others,
         code,

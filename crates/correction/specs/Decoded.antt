@@ -109,8 +109,8 @@ module _ (c : Code) (page : List ℕ) (lent : State) (o : Opens c page lent) whe
     run-lengths =
         let z = after-sized (code-incidence c (o .usable)) (passes (dataSymbols c) (thresholdsRun (c .q) (checksOf c) (dataSymbols c) ts (opened c page)))
         (opened c page) (opened-ready .sized) in
-        let k = o .usable .table .k-high in
-        rw f (omega (arith, z .len-difference, k), omega (arith, z .len-syndrome, k))
+        let l = o .usable .table .sizes in
+        rw f (omega (arith, z .len-difference, l .data-high), omega (arith, z .len-syndrome, l .k-high))
 
     -- it is the decode: e is the weight of D and S that it leaves
     pub run-decoded : (e : ℕ) → n ≡ distanceTo c page (opened c page) → e ≡ weight (x .state .difference) + weight (x .state .syndrome)

@@ -11,6 +11,7 @@ ghost use Rattle.model.specs.Demand.{DecodeFalls, DecodeRecovers};
 pub fn decode(
     q: u32,
     k: u32,
+    b: u32,
     positions: &[u16],
     page: &[u8],
     thresholds: &[u8],
@@ -26,14 +27,18 @@ pub fn decode(
         margins = now (margins .exit);
         counts = record { passes = r .tally .passes; changes = r .tally .changes; start = r .tally .start; end = r .tally .end };
       };
-    } ≡ decodeOutcome (codeOf q k (now (positions .entry))) (now (page .entry)) (now (thresholds .entry))
+    } ≡ decodeOutcome (codeOf q k b (now (positions .entry))) (now (page .entry)) (now (thresholds .entry))
         (stateBy (now (result .entry)) (now (syndrome .entry)) (now (difference .entry))) (now (margins .entry)) ⌝ }
-    ensures falling { λ r. ⌜ (r .number ≡ 0 → DecodeFalls (codeOf q k (now (positions .entry))) (now (thresholds .entry)) (now (page .entry))
+    ensures falling { λ r. ⌜ (r .number ≡ 0 → DecodeFalls (codeOf q k b (now (positions .entry))) (now (thresholds .entry)) (now (page .entry))
         (record { passes = r .tally .passes; changes = r .tally .changes; start = r .tally .start; end = r .tally .end })) ⌝ }
-    ensures recovery { λ r. ⌜ (r .number ≡ 0 → DecodeRecovers (codeOf q k (now (positions .entry))) (now (thresholds .entry)) (now (page .entry)) (now (result .exit))) ⌝ }
+    ensures recovery { λ r. ⌜ (r .number ≡ 0 → DecodeRecovers (codeOf q k b (now (positions .entry))) (now (thresholds .entry)) (now (page .entry)) (now (result .exit))) ⌝ }
 {
-    let code = Params { q, k: k as usize };
-    if k <= 128 {
+    let code = Params {
+        q,
+        k: k as usize,
+        b: b as usize,
+    };
+    if params::data_count(code) <= 128 {
         let mut few = [0u8; 128];
         return receiver::decode_into(
             code,

@@ -9,31 +9,38 @@ ghost use Rattle.model.specs.Demand.{Encodes, DecodeFalls, DecodeRecovers};
 // The version: major times 10,000 plus minor times 100 plus patch.
 #[no_mangle]
 pub extern "C" fn qmtd_version() -> u32
-    ensures { λ r. ⌜ r ≡ 200 ⌝ }
+    ensures { λ r. ⌜ r ≡ 300 ⌝ }
 {
-    200
+    300
 }
 
 // Checks a code table.
 #[no_mangle]
-pub extern "C" fn qmtd_check_table(q: u32, k: u32, table: &[u8]) -> u32
-    ensures { λ r. ⌜ r ≡ tableAnswer (codeOf q k (positionsOf (now (table .entry)))) ⌝ }
+pub extern "C" fn qmtd_check_table(q: u32, k: u32, b: u32, table: &[u8]) -> u32
+    ensures { λ r. ⌜ r ≡ tableAnswer (codeOf q k b (positionsOf (now (table .entry)))) ⌝ }
 {
-    let mut positions = [0u16; 32];
+    let mut positions = [0u16; 256];
     let n = octets::read_positions(table, &mut positions);
-    table::check_table(q, k, &positions[..n])
+    table::check_table(q, k, b, &positions[..n])
 }
 
 // Encodes data into a page.
 #[no_mangle]
-pub extern "C" fn qmtd_encode(q: u32, k: u32, table: &[u8], data: &[u8], page: &mut [u8]) -> u32
+pub extern "C" fn qmtd_encode(
+    q: u32,
+    k: u32,
+    b: u32,
+    table: &[u8],
+    data: &[u8],
+    page: &mut [u8],
+) -> u32
     ensures outcome { λ r. ⌜ record { number = r; left = now (page .exit) }
-        ≡ encodeOutcome (codeOf q k (positionsOf (now (table .entry)))) (now («data» .entry)) (now (page .entry)) ⌝ }
-    ensures word { λ r. ⌜ (r ≡ 0 → Encodes (codeOf q k (positionsOf (now (table .entry)))) (now («data» .entry)) (now (page .exit))) ⌝ }
+        ≡ encodeOutcome (codeOf q k b (positionsOf (now (table .entry)))) (now («data» .entry)) (now (page .entry)) ⌝ }
+    ensures word { λ r. ⌜ (r ≡ 0 → Encodes (codeOf q k b (positionsOf (now (table .entry)))) (now («data» .entry)) (now (page .exit))) ⌝ }
 {
-    let mut positions = [0u16; 32];
+    let mut positions = [0u16; 256];
     let n = octets::read_positions(table, &mut positions);
-    page::encode(q, k, &positions[..n], data, page)
+    page::encode(q, k, b, &positions[..n], data, page)
 }
 
 // Works out the syndrome of a page.
@@ -41,16 +48,17 @@ pub extern "C" fn qmtd_encode(q: u32, k: u32, table: &[u8], data: &[u8], page: &
 pub extern "C" fn qmtd_syndrome(
     q: u32,
     k: u32,
+    b: u32,
     table: &[u8],
     page: &[u8],
     syndrome: &mut [u8],
 ) -> u32
     ensures { λ r. ⌜ record { number = r; left = now (syndrome .exit) }
-        ≡ syndromeOutcome (codeOf q k (positionsOf (now (table .entry)))) (now (page .entry)) (now (syndrome .entry)) ⌝ }
+        ≡ syndromeOutcome (codeOf q k b (positionsOf (now (table .entry)))) (now (page .entry)) (now (syndrome .entry)) ⌝ }
 {
-    let mut positions = [0u16; 32];
+    let mut positions = [0u16; 256];
     let n = octets::read_positions(table, &mut positions);
-    page::syndrome(q, k, &positions[..n], page, syndrome)
+    page::syndrome(q, k, b, &positions[..n], page, syndrome)
 }
 
 // Decodes a page.
@@ -58,6 +66,7 @@ pub extern "C" fn qmtd_syndrome(
 pub extern "C" fn qmtd_decode(
     q: u32,
     k: u32,
+    b: u32,
     table: &[u8],
     page: &[u8],
     thresholds: &[u8],
@@ -74,15 +83,16 @@ pub extern "C" fn qmtd_decode(
         margins = now (margins .exit);
         counts = now (counts .exit);
       };
-    } ≡ cDecodeOutcome (codeOf q k (positionsOf (now (table .entry)))) (now (page .entry)) (now (thresholds .entry))
+    } ≡ cDecodeOutcome (codeOf q k b (positionsOf (now (table .entry)))) (now (page .entry)) (now (thresholds .entry))
         (stateBy (now (result .entry)) (now (syndrome .entry)) (now (difference .entry))) (now (margins .entry)) (now (counts .entry)) ⌝ }
-    ensures falling { λ r. ⌜ (r ≡ 0 → DecodeFalls (codeOf q k (positionsOf (now (table .entry)))) (now (thresholds .entry)) (now (page .entry))
-        (decodedCounts (codeOf q k (positionsOf (now (table .entry)))) (now (thresholds .entry)) (now (page .entry)))) ⌝ }
-    ensures recovery { λ r. ⌜ (r ≡ 0 → DecodeRecovers (codeOf q k (positionsOf (now (table .entry)))) (now (thresholds .entry)) (now (page .entry)) (now (result .exit))) ⌝ }
+    ensures falling { λ r. ⌜ (r ≡ 0 → DecodeFalls (codeOf q k b (positionsOf (now (table .entry)))) (now (thresholds .entry)) (now (page .entry))
+        (decodedCounts (codeOf q k b (positionsOf (now (table .entry)))) (now (thresholds .entry)) (now (page .entry)))) ⌝ }
+    ensures recovery { λ r. ⌜ (r ≡ 0 → DecodeRecovers (codeOf q k b (positionsOf (now (table .entry)))) (now (thresholds .entry)) (now (page .entry)) (now (result .exit))) ⌝ }
 {
     c_decoder::decode(
         q,
         k,
+        b,
         table,
         page,
         thresholds,

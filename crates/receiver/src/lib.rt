@@ -4,7 +4,7 @@ use tally::Decoded;
 use tally::Tally;
 ghost use mathlib.Core.Path.{_≡_};
 ghost use mathlib.Core.Bool.{_&&_};
-ghost use Prim.Native.Nat.{_≤_};
+ghost use Prim.Native.Nat.{_*_, _≤_};
 ghost use lib.ListN.{length};
 ghost use Rattle.model.specs.Decoder.{stateBy};
 ghost use Rattle.model.specs.Calls.{decodeFits, decodeOutcome};
@@ -26,7 +26,7 @@ pub fn decode_with(
     syndrome: &mut [u8],
     difference: &mut [u8],
 ) -> Decoded
-    requires { ⌜ (code .k ≤ 4096 → code .k ≤ length (now zeros)) ⌝ }
+    requires { ⌜ (code .k ≤ 4294967295) × (code .b ≤ 4294967295) × (code .b * code .k ≤ 4096 → code .b * code .k ≤ length (now zeros)) ⌝ }
     ensures outcome { λ r. ⌜ record {
       number = r .number;
       left = record { state = stateBy (now (result .exit)) (now (syndrome .exit)) (now (difference .exit)); counts = countsOf (r .tally) };
@@ -40,10 +40,11 @@ pub fn decode_with(
         (countsOf (r .tally))) ⌝ }
     ensures recovery { λ r. ⌜ (r .number ≡ 0 → DecodeRecovers (codeBy code (now (positions .entry))) (now (thresholds .entry)) (now (page .entry)) (now (result .exit))) ⌝ }
 {
-    let k = code.k;
+    let n = params::data_count(code);
     let fits = answers::decode_fits(
         others,
-        code,
+        n,
+        code.k,
         page.len(),
         result.len(),
         syndrome.len(),
@@ -61,7 +62,7 @@ pub fn decode_with(
         positions,
         page,
         thresholds,
-        &mut zeros[..k],
+        &mut zeros[..n],
         result,
         syndrome,
         difference,
@@ -81,7 +82,7 @@ pub fn decode_into(
     difference: &mut [u8],
     margins: &mut [i32],
 ) -> Decoded
-    requires { ⌜ (code .k ≤ 4096 → code .k ≤ length (now zeros)) ⌝ }
+    requires { ⌜ (code .k ≤ 4294967295) × (code .b ≤ 4294967295) × (code .b * code .k ≤ 4096 → code .b * code .k ≤ length (now zeros)) ⌝ }
     ensures outcome { λ r. ⌜ record {
       number = r .number;
       left = record {
@@ -95,9 +96,9 @@ pub fn decode_into(
         (countsOf (r .tally))) ⌝ }
     ensures recovery { λ r. ⌜ (r .number ≡ 0 → DecodeRecovers (codeBy code (now (positions .entry))) (now (thresholds .entry)) (now (page .entry)) (now (result .exit))) ⌝ }
 {
-    let k = code.k;
+    let n = params::data_count(code);
     let got = decode_with(
-        margins.len() == k,
+        margins.len() == n,
         code,
         positions,
         page,

@@ -5,6 +5,7 @@ use native.Mathlib.Omega.{arith}
 use lib.Seq.{length-take-le}
 use Rattle.model.specs.Bytes.{positionsOf}
 use Rattle.model.specs.Decoder.{stateBy}
+use Rattle.params.specs.Sizes.{sizes-fit}
 use Rattle.octets.specs.Reads.{decode-whole}
 use Rattle.c_decoder.proofs.decode.Statement.{statement}
 use Rattle.c_decoder.proofs.decode.Tie as tie
@@ -18,6 +19,11 @@ slice-aggregate-read-positions c = search needs
 
 read-positions-requires : tie.Need-read-positions-requires
 read-positions-requires c κs = search needs
+
+data-count-requires : tie.Need-data-count-requires
+data-count-requires c κs =
+    let a = start (c .before) .args in
+    omega (arith, sizes-fit (a .k) (a .b) (omega arith) (omega arith))
 
 array-share-prefix-positions : tie.Need-array-share-prefix-positions
 array-share-prefix-positions c = search needs
@@ -49,9 +55,9 @@ same-length-5 c = search needs
 returns : tie.Need-returns
 returns c =
     let d = c .before .before .before .before .before .before .before .before .before .before .before in
-    let read = d .before .before .before .before .before .before .before .before .before .before in
+    let read = d .before .before .before .before .before .before .before .before .before .before .before in
     let a = start read .args in
-    let w = decode-whole (a .q) (a .k) _ (positionsOf (a .table .now)) (read .read-positions .ensures .1) (a .page .now) (a .thresholds .now)
+    let w = decode-whole (a .q) (a .k) (a .b) _ (positionsOf (a .table .now)) (read .read-positions .ensures .1) (a .page .now) (a .thresholds .now)
     (stateBy (a .result .now) (a .syndrome .now) (a .difference .now)) (a .margins .now) (a .counts .now) _ _ (d .decode-into .ensures .0) (d .decode-into .ensures .1 .1) in
     (w .0, (w .1, w .2))
 
@@ -85,9 +91,9 @@ same-length-10 c = search needs
 returns-2 : tie.Need-returns-2
 returns-2 c =
     let d = c .before .before .before .before .before .before .before .before .before .before .before in
-    let read = d .before .before .before .before .before .before .before .before .before .before in
+    let read = d .before .before .before .before .before .before .before .before .before .before .before in
     let a = start read .args in
-    let w = decode-whole (a .q) (a .k) _ (positionsOf (a .table .now)) (read .read-positions .ensures .1) (a .page .now) (a .thresholds .now)
+    let w = decode-whole (a .q) (a .k) (a .b) _ (positionsOf (a .table .now)) (read .read-positions .ensures .1) (a .page .now) (a .thresholds .now)
     (stateBy (a .result .now) (a .syndrome .now) (a .difference .now)) (a .margins .now) (a .counts .now) _ _ (d .decode-into2 .ensures .0) (d .decode-into2 .ensures .1 .1) in
     (w .0, (w .1, w .2))
 
@@ -97,6 +103,7 @@ decode-spec =
     (tie.spec
     slice-aggregate-read-positions
     read-positions-requires
+    data-count-requires
     array-share-prefix-positions
     slice-aggregate-decode-into
     slice-aggregate-decode-into-2

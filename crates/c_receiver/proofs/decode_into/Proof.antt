@@ -2,7 +2,8 @@
 use borrow.Author.Needs.{needs}
 use mathlib.Core.Path.{_≡_, sym, _∙_, ap}
 use mathlib.Core.Bool.{Bool, _&&_}
-use Prim.Native.Nat.{_*_}
+use Prim.Native.Nat.{ℕ, _*_}
+use native.Mathlib.Omega.{arith}
 use lib.Dec.{eqb}
 use lib.ListN.{length}
 use Rattle.model.specs.Bytes.{marginBytes, bytesOf, cDecodeOutcome}
@@ -10,6 +11,7 @@ use Rattle.model.specs.Calls.{decodeFits, decodeAnswer}
 use Rattle.model.specs.Code.{Code}
 use Rattle.model.specs.Decoder.{State, stateBy, marginsOf}
 use Rattle.params.specs.Codes.{codeBy}
+use Rattle.params.specs.Sizes.{sizes-fit}
 use Rattle.theory.specs.Answers.{and-true, eqb-true, decode-others}
 use Rattle.theory.specs.Outcomes.{left-as-lent, left-as-done, outcome-number, outcome-lent, outcome-done}
 use Rattle.theory.specs.Statements.{decode-falls}
@@ -17,25 +19,27 @@ use Rattle.receiver.specs.Received.{Ran, ranOutcome}
 use Rattle.c_receiver.proofs.decode_into.Statement.{statement}
 use Rattle.c_receiver.proofs.decode_into.Tie as tie
 
-mul-two-fit : tie.Need-mul-two-fit
-mul-two-fit c = search needs
+data-count-requires : tie.Need-data-count-requires
+data-count-requires c κs =
+    let b = c .before .before .before .before .before .before .before .before .before in
+    omega (arith, sizes-fit (b .args .code .k) (b .args .code .b) (b .pre .0) (b .pre .1))
 
-two-fit-requires : tie.Need-two-fit-requires
-two-fit-requires c κs = search needs
+bytes-fit-requires : tie.Need-bytes-fit-requires
+bytes-fit-requires c κs = search needs
 
 decode-with-requires : tie.Need-decode-with-requires
 decode-with-requires c κs = search needs
 
 -- the places that later ones look back to: the start and the decode
 abbrev start : tie.After-decode-with → tie.Start
-start c = c .before .before .before .before .before .before .before .before .before .before .before .before .before .before .before
+start c = c .before .before .before .before .before .before .before .before .before .before .before .before .before .before .before .before
 
 abbrev decode : tie.After-struct-known → tie.After-decode-with
 decode c = c .before .before .before .before .before .before .before .before .before
 
 -- the lengths of the margins and of the counts
 abbrev others : tie.Start → Bool
-others b = eqb (length (b .args .margins .now)) (4 * b .args .code .k) && eqb (length (b .args .counts .now)) 16
+others b = eqb (length (b .args .margins .now)) (4 * (b .args .code .b * b .args .code .k)) && eqb (length (b .args .counts .now)) 16
 
 -- the number returned is decode's, with margins and counts among the lent buffers
 number : (p : tie.After-decode-with)
@@ -49,18 +53,19 @@ number p =
     let code : Code = codeBy (a .code) (a .positions .now) in
     let lent : State = stateBy (a .result .now) (a .syndrome .now) (a .difference .now) in
     outcome-number _ _ _ _ _ (p .decode-with .ensures .0)
-    ∙ ap (λ (b : Bool). decodeAnswer code (b && decodeFits code (a .page .now) lent) (a .page .now) (a .thresholds .now)) (p .before .before .before .before .before .two-fit .ensures)
+    ∙ ap (λ (b : Bool). decodeAnswer code (b && decodeFits code (a .page .now) lent) (a .page .now) (a .thresholds .now))
+    (p .before .before .before .before .before .bytes-fit .ensures ∙ ap (λ (n : ℕ). eqb (length (a .margins .now)) (4 * n) && eqb (length (a .counts .now)) 16) (p .before .before .before .before .before .before .data-count .ensures))
 
 -- where it is done, both lengths fit
 lengths : (c : tie.Else1)
     → let a = start (decode (c .before)) .args in
-    (length (a .margins .now) ≡ 4 * a .code .k) × (length (a .counts .now) ≡ 16)
+    (length (a .margins .now) ≡ 4 * (a .code .b * a .code .k)) × (length (a .counts .now) ≡ 16)
 lengths c =
     let p = decode (c .before) in
     let a = start p .args in
-    let f = and-true (eqb (length (a .margins .now)) (4 * a .code .k)) (eqb (length (a .counts .now)) 16)
+    let f = and-true (eqb (length (a .margins .now)) (4 * (a .code .b * a .code .k))) (eqb (length (a .counts .now)) 16)
     (decode-others _ (others (start p)) (a .page .now) (a .thresholds .now) (stateBy (a .result .now) (a .syndrome .now) (a .difference .now)) (sym (number p) ∙ c .if1 .left)) in
-    (eqb-true (length (a .margins .now)) (4 * a .code .k) (f .0), eqb-true (length (a .counts .now)) 16 (f .1))
+    (eqb-true (length (a .margins .now)) (4 * (a .code .b * a .code .k)) (f .0), eqb-true (length (a .counts .now)) 16 (f .1))
 
 same-length : tie.Need-same-length
 same-length c = search needs
@@ -137,8 +142,8 @@ pub decode-into-spec : {M : Type 1} → statement M
 decode-into-spec =
     tie.close
     (tie.spec
-    mul-two-fit
-    two-fit-requires
+    data-count-requires
+    bytes-fit-requires
     decode-with-requires
     same-length
     same-length-2

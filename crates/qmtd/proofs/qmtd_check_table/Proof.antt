@@ -26,7 +26,7 @@ check-table-requires c κs = search needs
 returns : tie.Need-returns
 returns c =
     let a = c .before .before .before .before .before .before .args in
-    c .check-table .ensures ∙ table-read (a .q) (a .k) _ (positionsOf (a .table .now)) (c .before .before .before .read-positions .ensures .1)
+    c .check-table .ensures ∙ table-read (a .q) (a .k) (a .b) _ (positionsOf (a .table .now)) (c .before .before .before .read-positions .ensures .1)
 
 pub qmtd-check-table-spec : {M : Type 1} → statement M
 qmtd-check-table-spec =

@@ -31,8 +31,8 @@ returns c =
     let p = c .before .before in
     let a = p .before .before .before .before .before .before .before .before .before .args in
     let e = p .before .before .before .before .read-positions .ensures .1 in (
-      p .encode .ensures .0 ∙ encode-read (a .q) (a .k) _ (positionsOf (a .table .now)) e (a .«data» .now) (a .page .now),
-      λ z. encodes-read (a .q) (a .k) _ (positionsOf (a .table .now)) e (a .«data» .now) _ (p .encode .ensures .1 z),
+      p .encode .ensures .0 ∙ encode-read (a .q) (a .k) (a .b) _ (positionsOf (a .table .now)) e (a .«data» .now) (a .page .now),
+      λ z. encodes-read (a .q) (a .k) (a .b) _ (positionsOf (a .table .now)) e (a .«data» .now) _ (p .encode .ensures .1 z),
     )
 
 pub qmtd-encode-spec : {M : Type 1} → statement M

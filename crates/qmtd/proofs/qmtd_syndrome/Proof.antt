@@ -30,7 +30,7 @@ returns : tie.Need-returns
 returns c =
     let p = c .before .before in
     let a = p .before .before .before .before .before .before .before .before .before .args in
-    p .syndrome .ensures ∙ syndrome-read (a .q) (a .k) _ (positionsOf (a .table .now)) (p .before .before .before .before .read-positions .ensures .1) (a .page .now)
+    p .syndrome .ensures ∙ syndrome-read (a .q) (a .k) (a .b) _ (positionsOf (a .table .now)) (p .before .before .before .before .read-positions .ensures .1) (a .page .now)
     (a .syndrome .now)
 
 pub qmtd-syndrome-spec : {M : Type 1} → statement M

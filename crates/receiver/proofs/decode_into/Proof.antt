@@ -2,24 +2,32 @@
 use borrow.Author.Needs.{needs}
 use mathlib.Core.Path.{_≡_, sym, _∙_, ap}
 use mathlib.Core.Bool.{_&&_}
+use Prim.Native.Nat.{ℕ, _*_}
+use native.Mathlib.Omega.{arith}
 use lib.Dec.{eqb}
 use lib.ListN.{length}
 use Rattle.model.specs.Calls.{decodeFits, decodeAnswer, decodeOutcome}
 use Rattle.model.specs.Code.{Code}
 use Rattle.model.specs.Decoder.{State, stateBy, marginsOf}
 use Rattle.params.specs.Codes.{codeBy}
+use Rattle.params.specs.Sizes.{sizes-fit}
 use Rattle.theory.specs.Answers.{eqb-true, decode-others}
 use Rattle.theory.specs.Outcomes.{left-as-lent, left-as-done, outcome-number, outcome-lent, outcome-done}
 use Rattle.receiver.specs.Received.{Ran, ranOutcome}
 use Rattle.receiver.proofs.decode_into.Statement.{statement}
 use Rattle.receiver.proofs.decode_into.Tie as tie
 
+data-count-requires : tie.Need-data-count-requires
+data-count-requires c κs =
+    let b = c .before .before .before .before .before .before .before in
+    omega (arith, sizes-fit (b .args .code .k) (b .args .code .b) (b .pre .0) (b .pre .1))
+
 decode-with-requires : tie.Need-decode-with-requires
 decode-with-requires c κs = search needs
 
 -- the places that later ones look back to: the start and the decode
 abbrev start : tie.After-decode-with → tie.Start
-start c = c .before .before .before .before .before .before .before .before .before .before .before .before
+start c = c .before .before .before .before .before .before .before .before .before .before .before .before .before
 
 abbrev decode : tie.After-struct-known → tie.After-decode-with
 decode c = c .before .before .before .before .before .before .before .before .before
@@ -29,9 +37,15 @@ number : (p : tie.After-decode-with)
     → let a = start p .args in
     let code = codeBy (a .code) (a .positions .now) in
     let lent = stateBy (a .result .now) (a .syndrome .now) (a .difference .now) in
-    p .decode-with .result .number ≡ decodeAnswer code (eqb (length (a .margins .now)) (a .code .k) && decodeFits code (a .page .now) lent) (a .page .now) (a .thresholds .now)
+    p .decode-with .result .number ≡ decodeAnswer code (eqb (length (a .margins .now)) (a .code .b * a .code .k) && decodeFits code (a .page .now) lent) (a .page .now) (a .thresholds .now)
 unfolding ranOutcome
-number p = outcome-number _ _ _ _ _ (p .decode-with .ensures .0)
+number p =
+    let a = start p .args in
+    let code : Code = codeBy (a .code) (a .positions .now) in
+    let lent : State = stateBy (a .result .now) (a .syndrome .now) (a .difference .now) in
+    outcome-number _ _ _ _ _ (p .decode-with .ensures .0)
+    ∙ ap (λ (n : ℕ). decodeAnswer code (eqb (length (a .margins .now)) n && decodeFits code (a .page .now) lent) (a .page .now) (a .thresholds .now))
+    (p .before .before .before .before .before .data-count .ensures)
 
 same-length : tie.Need-same-length
 same-length c = search needs
@@ -63,8 +77,8 @@ fill-requires c κs =
     let a = start p .args in
     let lent : State = stateBy (a .result .now) (a .syndrome .now) (a .difference .now) in (
       p .decode-with .ensures .1 .0 (done .if1 .left),
-      eqb-true (length (a .margins .now)) (a .code .k)
-          (decode-others _ (eqb (length (a .margins .now)) (a .code .k)) (a .page .now) (a .thresholds .now) lent (sym (number p) ∙ done .if1 .left)),
+      eqb-true (length (a .margins .now)) (a .code .b * a .code .k)
+          (decode-others _ (eqb (length (a .margins .now)) (a .code .b * a .code .k)) (a .page .now) (a .thresholds .now) lent (sym (number p) ∙ done .if1 .left)),
     )
 
 same-length-5 : tie.Need-same-length-5
@@ -101,6 +115,7 @@ pub decode-into-spec : {M : Type 1} → statement M
 decode-into-spec =
     tie.close
     (tie.spec
+    data-count-requires
     decode-with-requires
     same-length
     same-length-2

@@ -2,13 +2,15 @@
 use borrow.Author.Needs.{needs}
 use mathlib.Core.Path.{_≡_, sym, _∙_, ap}
 use mathlib.Core.Bool.{Bool, _&&_}
-use Prim.Native.Nat.{_≤_}
+use Prim.Native.Nat.{ℕ, _+_, _*_, _≤_}
+use lib.Dec.{eqb}
 use lib.ListN.{length}
 use lib.Seq.{length-take-le, take-at}
 use native.Mathlib.Omega.{arith}
 use Rattle.model.specs.Calls.{decodeFits, decodeAnswer}
 use Rattle.model.specs.Decoder.{stateBy}
 use Rattle.params.specs.Codes.{codeBy}
+use Rattle.params.specs.Sizes.{sizes-fit}
 use Rattle.theory.specs.Answers.{Taken, decode-taken}
 use Rattle.theory.specs.Outcomes.{left-as-lent, left-as-done}
 use Rattle.theory.specs.Statements.{decode-falls, decode-recovers}
@@ -18,6 +20,11 @@ use Rattle.receiver.specs.Received.{countsOf, ranOutcome, left-by}
 use Rattle.receiver.proofs.decode_with.Statement.{statement}
 use Rattle.receiver.proofs.decode_with.Tie as tie
 
+data-count-requires : tie.Need-data-count-requires
+data-count-requires c κs =
+    let b = c .before .before .before .before .before .before .before in
+    omega (arith, sizes-fit (b .args .code .k) (b .args .code .b) (b .pre .0) (b .pre .1))
+
 decode-fits-requires : tie.Need-decode-fits-requires
 decode-fits-requires c κs = search needs
 
@@ -26,7 +33,7 @@ decode-answer-requires c κs = search needs
 
 -- the start, from where the number is known
 abbrev start : tie.After-decode-answer → tie.Start
-start c = c .before .before .before .before .before .before .before .before .before
+start c = c .before .before .before .before .before .before .before .before .before .before
 
 -- the number returned is decode's
 number : (p : tie.After-decode-answer)
@@ -36,7 +43,11 @@ number : (p : tie.After-decode-answer)
     p .decode-answer .result ≡ decodeAnswer code (a .others && decodeFits code (a .page .now) lent) (a .page .now) (a .thresholds .now)
 number p =
     let a = start p .args in
-    p .decode-answer .ensures ∙ ap (λ (b : Bool). decodeAnswer (codeBy (a .code) (a .positions .now)) b (a .page .now) (a .thresholds .now)) (p .before .decode-fits .ensures)
+    p .decode-answer .ensures ∙ ap (λ (b : Bool). decodeAnswer (codeBy (a .code) (a .positions .now)) b (a .page .now) (a .thresholds .now))
+    (p .before .decode-fits .ensures
+    ∙ ap (λ (n : ℕ). a .others && (eqb (length (a .page .now)) (n + a .code .k)
+    && (eqb (length (a .result .now)) n && (eqb (length (a .syndrome .now)) (a .code .k) && eqb (length (a .difference .now)) n))))
+    (p .before .before .data-count .ensures))
 
 opened-requires : tie.Need-opened-requires
 opened-requires c κs = search needs
@@ -58,17 +69,21 @@ taken c =
     let a = start (c .before) .args in
     decode-taken _ (a .others) (a .page .now) (a .thresholds .now) _ (sym (number (c .before)) ∙ c .if1 .left)
 
-room : (c : tie.Else1) → let a = start (c .before) .args in a .code .k ≤ length (a .zeros .now)
-room c = start (c .before) .pre (taken c .opens .usable .table .k-high)
+room : (c : tie.Else1) → let a = start (c .before) .args in a .code .b * a .code .k ≤ length (a .zeros .now)
+room c = start (c .before) .pre .2 (taken c .opens .usable .table .sizes .data-high)
+
+-- and the part of it that is lent
+part : (c : tie.Else1) → c .before .before .before .data-count .result ≤ length (start (c .before) .args .zeros .now)
+part c = omega (arith, c .before .before .before .data-count .ensures, room c)
 
 slice-relend-prefix-decode-page : tie.Need-slice-relend-prefix-decode-page
-slice-relend-prefix-decode-page c = room c
+slice-relend-prefix-decode-page c = part c
 
 slice-aggregate-decode-page : tie.Need-slice-aggregate-decode-page
-slice-aggregate-decode-page c = sym (length-take-le _ _ (room (c .before)))
+slice-aggregate-decode-page c = sym (length-take-le _ _ (part (c .before)))
 
 decode-page-requires : tie.Need-decode-page-requires
-decode-page-requires c κs = let e = c .before .before .before .before in (taken e, length-take-le _ _ (room e))
+decode-page-requires c κs = let e = c .before .before .before .before in (taken e, length-take-le _ _ (part e) ∙ e .before .before .before .data-count .ensures)
 
 same-length : tie.Need-same-length
 same-length c = search needs
@@ -96,7 +111,9 @@ returns-2 c =
       left-as-done _ _ _ _ n (λ i. record { state = e i .state; counts = countsOf (e i .tally) }),
       (
         λ z. left-by code (a .page .now) (a .thresholds .now) lent (taken done .opens) _ _ e (omega (arith, room done, same-length c))
-            (λ m. let z = d .decode-page .ensures .1 m in take-at _ _ _ (ap length z ∙ length-zeroCounts _ _) ∙ z),
+            (λ m.
+            let z = d .decode-page .ensures .1 m in
+            take-at _ _ _ (ap length z ∙ length-zeroCounts _ _) ∙ z),
         (
           λ z. rw (ap (λ (x : Progress). x .tally) e) (decode-falls code (a .others) (a .page .now) (a .thresholds .now) lent (sym n)),
           λ z. rw (ap (λ (x : Progress). x .state .result) e) (decode-recovers code (a .others) (a .page .now) (a .thresholds .now) lent (sym n)),
@@ -108,6 +125,7 @@ pub decode-with-spec : {M : Type 1} → statement M
 decode-with-spec =
     tie.close
     (tie.spec
+    data-count-requires
     decode-fits-requires
     decode-answer-requires
     opened-requires
