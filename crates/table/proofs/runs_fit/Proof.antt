@@ -20,16 +20,18 @@ mul-if1 c =
 
 returns : tie.Need-returns
 returns c =
-    let e = c .before .before .checks-each .ensures in
-    rw (← e, ne-eqb _ _ (c .if1 .taken))
+    let each = c .before .before .checks-each in
+    let a = c .before .before .before .before .args in
+    rw (← each .ensures, ne-eqb (length (a .positions .now)) (a .code .b * each .result) (omega arith))
 
 within-requires : tie.Need-within-requires
 within-requires c κs = search needs
 
 returns-2 : tie.Need-returns-2
 returns-2 c =
-    let e = c .before .before .before .checks-each .ensures in
-    rw (← e, eq-eqb _ _ (c .before .if1 .left)) (c .within .ensures)
+    let each = c .before .before .before .checks-each in
+    let a = c .before .before .before .before .before .args in
+    rw (← each .ensures, eq-eqb (length (a .positions .now)) (a .code .b * each .result) (omega arith)) (c .within .ensures)
 
 pub runs-fit-spec : {M : Type 1} → statement M
 runs-fit-spec = tie.close (tie.spec checks-each-requires mul-if1 returns within-requires returns-2)
