@@ -1,8 +1,8 @@
 -- The places of data symbols, branch by branch: by their number, and one after the other.
-use mathlib.Core.Path.{_≡_, refl, ap, sym, subst, _∙_}
+use mathlib.Core.Path.{_≡_, ap, sym, subst, _∙_}
 use mathlib.Core.List.{List}
 use Prim.Native.Nat.{ℕ, suc, _+_, _*_, _-_, _/_, _%_, _<_, _≤_}
-use native.Mathlib.Nat.{mod-lt, div-add-mod', mul-le-mul-right, mul-le-mul-left, zero-mul, zero-div, zero-mod}
+use native.Mathlib.Nat.{mod-lt, div-add-mod', mul-le-mul-right, zero-mul}
 use native.Mathlib.Decide.{ℕ-discrete}
 use native.Mathlib.Omega.{arith}
 use lib.Arith.{digits-div, digits-mod}

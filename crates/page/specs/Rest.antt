@@ -13,6 +13,7 @@ use Rattle.model.specs.Code.{Code, dataCount, checksEach, branchAt, branchData,
 use Rattle.model.specs.Limits.{Ascending, TableLimits}
 use Rattle.theory.specs.Branches.{branch-length, branch-position, position-below, run-inside, branch-inside, data-part}
 use Rattle.theory.specs.Counting.{same-yes, same-no, same-le, sum-off}
+use Rattle.theory.specs.Parts.{part-length}
 use Rattle.theory.specs.Steps.{SymbolsBelow}
 use Rattle.page.specs.Sums.{added, added-none, added-more}
 
@@ -40,9 +41,6 @@ ascending-drop k ps n a = record {
   below = (λ i h. rw (getD-drop n ps i 0) (a .below (n + i) (omega (arith, length-drop n ps))));
   above = (λ i h. rw (getD-drop n ps i 0, getD-drop n ps (suc i) 0, add-suc n i) (a .above (n + i) (omega (arith, length-drop n ps))));
 }
-
-pub part-length : (at n : ℕ) (u : List ℕ) → at + n ≤ length u → length (take (at + n - at) (drop at u)) ≡ n
-part-length at n u h = length-take (at + n - at) (drop at u) ∙ omega (arith, length-drop at u)
 
 drop-take : (n m : ℕ) (l : List ℕ) → n ≤ m → n ≤ length l → drop n (take m l) ≡ take (m - n) (drop n l)
 drop-take n m l h w =

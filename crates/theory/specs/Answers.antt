@@ -100,14 +100,6 @@ pub within-below : (low high x : ℕ) → x < low → within low high x ≡ fals
 unfolding within
 within-below low high x h = rw (lt-leb low x h)
 
-pub within-above : (low high x : ℕ) → high < x → within low high x ≡ false
-unfolding within
-within-above low high x h = rw (lt-leb x high h) (and-false (leb low x))
-  where
-    and-false : (b : Bool) → (b && false) ≡ false
-    and-false true = refl
-    and-false false = refl
-
 pub all-below : (q : ℕ) → zero < q → (s : List ℕ) → allBelow q s ≡ true → Below q s
 unfolding allBelow
 all-below q pos [] e i = pos

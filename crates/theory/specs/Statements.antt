@@ -3,28 +3,30 @@ use mathlib.Core.Path.{_≡_, ap, sym, _∙_, subst}
 use mathlib.Core.Logic.{_≢_, _↔_}
 use mathlib.Core.Bool.{Bool, true, _&&_}
 use mathlib.Core.List.{List, [], _∷_, _++_}
-use Prim.Native.Nat.{ℕ, suc, _%_, _≤_, _<_}
+use Prim.Native.Nat.{ℕ, suc, _+_, _%_, _≤_, _<_}
+use native.Mathlib.Nat.{one-mul}
 use native.Mathlib.Omega.{arith}
 use lib.Dec.{eqb}
 use lib.IntN.{pos, negℤ, _-ℤ_}
 use lib.ListN.{length, getD, length-map}
 use lib.Signed.{_≤ℤ_}
-use Rattle.model.specs.Calls.{decodeFits, tableAnswer, decodeAnswer}
-use Rattle.model.specs.Code.{Code, dataCount, checkCount, pageLength, checksEach, checksOf, checkSymbol, checkSymbols, dataOf, receivedChecks, SelfOrthogonal, differences, allDifferent}
+use Rattle.model.specs.Calls.{firstThatApplies, decodeFits, tableAnswer, decodeAnswer}
+use Rattle.model.specs.Code.{Code, codeOf, dataCount, checkCount, pageLength, checksEach, checksBy, checksOf, checkSumBy, checkSymbol, checkSymbols, codeWord, dataOf, receivedChecks, SelfOrthogonal, differencesBy, differences, allDifferent}
 use Rattle.model.specs.Decoder.{State, Visit, estimates, changes, visit, after, passes, dataSymbols, opened, passesOf, run, distanceTo, Counts, decodedState, decodedCounts, marginsOf}
 use Rattle.model.specs.Demand.{VisitFalls, Falls, RunFalls, DecodeFalls, Recovers, DecodeRecovers}
 use Rattle.model.specs.Limits.{TableLimits, Limits}
-use Rattle.model.specs.Symbols.{choose, count, addEach, subEach}
+use Rattle.model.specs.Symbols.{choose, count, tabulate, addEach, subEach}
 use Rattle.model.specs.Vote.{leader, leadCount, nextCount, votes, margin}
 use Rattle.theory.specs.Answers.{table-accepted, table-accepts, table-usable, Taken, decode-taken}
 use Rattle.theory.specs.Branches.{orthogonal-differences}
 use Rattle.theory.specs.Codes.{code-incidence, check-symbol, check-symbols}
 use Rattle.theory.specs.Counting.{All, length-symbolsAt}
 use Rattle.theory.specs.Decoding.{code-falls, code-received, code-sized, code-tied, code-distance, code-recovers}
-use Rattle.theory.specs.Distance.{length-tabulate}
+use Rattle.theory.specs.Distance.{length-tabulate, tabulate-ext}
 use Rattle.theory.specs.Falling.{InRange, visit-no, weight-falls, falls-at}
 use Rattle.theory.specs.Margins.{margin-low, margin-high, margin-top, margin-bottom, other-zero, margin-stays, margin-at}
 use Rattle.theory.specs.Moments.{result-is, syndrome-is, runs-few, first-run, changes-few, weight-few}
+use Rattle.theory.specs.OneBranch.{firstTests, run-all, checks-all, check-all, differences-all, answer-all}
 use Rattle.theory.specs.Runs.{range-passes, symbols-range, symbols-visited}
 use Rattle.theory.specs.Steps.{checkSum, SymbolsBelow, Sized, stateWeight}
 use Rattle.theory.specs.Tables.{orthogonal-test}
@@ -46,6 +48,30 @@ by-differences c l = orthogonal-differences c l
 -- A check, by positions, is the sum over the data symbols that have it among their checks.
 pub check-sum : (c : Code) → TableLimits c → (u : List ℕ) (i : ℕ) → i < checkCount c → checkSymbol c u i ≡ checkSum (dataCount c) (checksOf c) u i % c .q
 check-sum c l u i h = check-symbol c l u i h
+
+-- A code of one branch is the code of document 01: J is the number of positions in the table, data symbol j has the checks (j + p) mod k,
+-- check i is the sum of u((i − p) mod k) over all positions p, a page is k data symbols and k checks, the differences are those of all ordered
+-- pairs of different positions, and the table check has tests 1 to 5 alone (N2: "b = 1 gives the old answers").
+pub record AsBefore (q k : ℕ) (ps : List ℕ) : Type 0 where
+  pub each : checksEach (codeOf q k 1 ps) ≡ length ps
+  pub checks : (j : ℕ) → j < k → checksOf (codeOf q k 1 ps) j ≡ checksBy k ps j
+  pub symbols : (u : List ℕ) (i : ℕ) → checkSymbol (codeOf q k 1 ps) u i ≡ checkSumBy k ps u i % q
+  pub page-length : pageLength (codeOf q k 1 ps) ≡ k + k
+  pub word : (u : List ℕ) → codeWord (codeOf q k 1 ps) u ≡ u ++ tabulate k (λ i. checkSumBy k ps u i % q)
+  pub differences-are : differences (codeOf q k 1 ps) ≡ differencesBy k ps ps
+  pub answer : tableAnswer (codeOf q k 1 ps) ≡ firstThatApplies (firstTests (codeOf q k 1 ps))
+
+pub one-branch : (q k : ℕ) (ps : List ℕ) → 1 ≤ k → AsBefore q k ps
+unfolding codeWord checkSymbols
+one-branch q k ps h = record {
+  each = run-all q k ps;
+  checks = checks-all q k ps;
+  symbols = check-all q k ps h;
+  page-length = omega (arith, one-mul k);
+  word = (λ u. ap (λ (v : List ℕ). u ++ v) (tabulate-ext k _ _ (λ i l. check-all q k ps h u i)));
+  differences-are = differences-all q k ps;
+  answer = answer-all q k ps;
+}
 
 -- ---- 2. lists of visits from an opened page
 

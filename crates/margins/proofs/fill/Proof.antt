@@ -1,11 +1,11 @@
 -- `fill`: at distance 0 every margin is J + 1, else each is written by the zeros at its symbol's checks.
 use borrow.Author.Needs.{needs}
-use mathlib.Core.Path.{_≡_, sym, _∙_, ap}
-use mathlib.Core.List.{List, map}
+use mathlib.Core.Path.{sym, _∙_, ap}
+use mathlib.Core.List.{map}
 use Prim.Native.Nat.{ℕ, _+_}
 use native.Mathlib.Omega.{arith}
 use lib.IntN.{pos, _-ℤ_}
-use lib.ListN.{length, take}
+use lib.ListN.{take}
 use lib.Seq.{length-take-le}
 use Rattle.model.specs.Decoder.{stateBy}
 use Rattle.model.specs.Symbols.{tabulate}

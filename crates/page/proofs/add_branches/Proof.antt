@@ -3,11 +3,11 @@ use borrow.Author.Needs.{needs}
 use mathlib.Core.Path.{_≡_, sym, ap, subst, _∙_}
 use Prim.Native.Nat.{_+_, _-_, _<_}
 use native.Mathlib.Omega.{arith}
-use Rattle.theory.specs.Parts.{below-part}
+use Rattle.theory.specs.Parts.{below-part, part-length}
 use Rattle.theory.specs.Steps.{SymbolsBelow}
 use Rattle.params.specs.Codes.{codeBy}
 use Rattle.page.specs.Sums.{added, added-below}
-use Rattle.page.specs.Rest.{restSum, rest-none, part-length, Stands, Inside, stands-first, stands-next, stands-inside, part-ascending, rest-added}
+use Rattle.page.specs.Rest.{restSum, rest-none, Stands, Inside, stands-first, stands-next, stands-inside, part-ascending, rest-added}
 use Rattle.page.proofs.add_branches.Statement.{statement}
 use Rattle.page.proofs.add_branches.Tie as tie
 

@@ -4,7 +4,6 @@ use mathlib.Core.Path.{_∙_, ap}
 use mathlib.Core.List.{List}
 use Prim.Native.Nat.{ℕ}
 use native.Mathlib.Omega.{arith}
-use Rattle.model.specs.Code.{Code}
 use Rattle.model.specs.Symbols.{subtractAt}
 use Rattle.params.specs.Codes.{codeBy}
 use Rattle.checks.specs.Places.{Found, found}

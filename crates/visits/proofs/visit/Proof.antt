@@ -6,7 +6,6 @@ use Prim.Native.Nat.{ℕ, _<_}
 use native.Mathlib.Omega.{arith}
 use lib.ListN.{length, getD}
 use Rattle.model.specs.Code.{Code}
-use Rattle.model.specs.Decoder.{stateBy}
 use Rattle.model.specs.Symbols.{count, symbolsAt}
 use Rattle.params.specs.Codes.{codeBy}
 use Rattle.checks.specs.Places.{Found, found}

@@ -1,10 +1,9 @@
 -- `write_check`: the counts of the first r branches are those of the syndrome with v at check c; at the end all are.
-use mathlib.Core.Path.{_≡_, refl, ap, sym, _∙_}
-use mathlib.Core.List.{List}
-use Prim.Native.Nat.{ℕ, _-_}
+use mathlib.Core.Path.{refl, ap, sym, _∙_}
+use Prim.Native.Nat.{_-_}
 use native.Mathlib.Omega.{arith}
 use borrow.Author.Needs.{needs}
-use lib.ListN.{length, set, length-set}
+use lib.ListN.{length, length-set}
 use Rattle.model.specs.Code.{Code, branchAt}
 use Rattle.params.specs.Codes.{codeBy}
 use Rattle.theory.specs.Branches.{Branch, next-branch}

@@ -1,5 +1,4 @@
 -- `reference::Piece::margins_are_due` is safe and ends. The measure is how many margins are left. Assumes nothing.
-use borrow.Author.Needs.{needs}
 use Prim.Native.Nat.{_-_}
 use native.Mathlib.Omega.{arith}
 use lib.ListN.{length}
