@@ -1,19 +1,20 @@
 -- The runs of a table, taken one after the other: what is left of them beside the first position, and the sums of its rows.
-use mathlib.Core.Path.{_≡_, refl, ap, sym, _∙_}
+use mathlib.Core.Path.{_≡_, refl, ap, sym, subst, _∙_}
 use mathlib.Core.Logic.{_≢_}
 use mathlib.Core.List.{List}
 use Prim.Native.Nat.{ℕ, suc, _+_, _-_, _*_, _<_, _≤_}
 use native.Mathlib.Nat.{zero-mul, add-suc}
 use native.Mathlib.Numerals.{add-one}
 use native.Mathlib.Omega.{arith}
-use lib.ListN.{length, getD, take, drop, length-take, length-drop}
-use lib.Seq.{take-add, drop-at, drop-cons, drop-drop, getD-drop, length-take-le}
-use Rattle.model.specs.Symbols.{sub, same, sumOver, sumBelow}
+use lib.ListN.{length, getD, take, drop, length-drop}
+use lib.Seq.{take-add, drop-at, drop-cons, getD-drop, length-take-le}
+use Rattle.model.specs.Symbols.{sub, same, Below, sumOver, sumBelow}
 use Rattle.model.specs.Code.{Code, dataCount, checksEach, branchAt, branchData, checkSumBy}
 use Rattle.model.specs.Limits.{Ascending, TableLimits}
-use Rattle.theory.specs.Branches.{branch-length, branch-position, position-below, run-inside, branch-inside, data-part}
-use Rattle.theory.specs.Counting.{same-yes, same-no, same-le, sum-off}
-use Rattle.theory.specs.Parts.{part-length}
+use Rattle.theory.specs.Branches.{branch-length, branch-position, position-below, run-part, run-inside, branch-inside, data-part}
+use Rattle.theory.specs.Codes.{ByteCode}
+use Rattle.theory.specs.Counting.{same-no, sum-off}
+use Rattle.theory.specs.Parts.{below-part}
 use Rattle.theory.specs.Steps.{SymbolsBelow}
 use Rattle.page.specs.Sums.{added, added-none, added-more}
 
@@ -47,31 +48,23 @@ drop-take n m l h w =
     ap (λ (x : ℕ). drop n (take x l)) (let z : m ≡ n + (m - n) = omega arith in z)
     ∙ ap (drop n) (take-add n (m - n) l) ∙ drop-at (take n l) (take (m - n) (drop n l)) n (length-take-le n l w)
 
--- where a loop over the branches stands: branch r of the data starts at `at`, and the rest of run r goes from `from` up to `to`
-pub record Stands (c : Code) (r at from to : ℕ) : Type 0 where
+-- where the loop over the branches after the first stands: branch r of the data starts at `at`, and its run at `from`
+pub record Stands (c : Code) (r at from : ℕ) : Type 0 where
+  pub later : 0 < r
   pub within : r ≤ c .b
   pub data-at : at ≡ r * c .k
-  pub run-from : from ≡ r * checksEach c + same r 0
-  pub run-to : to ≡ r * checksEach c + checksEach c
+  pub run-at : from ≡ r * checksEach c
 
--- before the first branch, and after one more
-module _ (c : Code) (each : ℕ) (e : each ≡ checksEach c) where
-  pub stands-first : Stands c 0 0 1 each
-  stands-first = record { within = omega arith; data-at = omega arith; run-from = omega (arith, same-yes 0 0 refl); run-to = omega (arith, e) }
-
-  pub stands-next : (r at from to : ℕ) → r < c .b → Stands c r at from to → Stands c (r + 1) (at + c .k) to (to + each)
-  stands-next r at from to h s = record {
-    within = omega arith;
-    data-at = omega (arith, s .data-at);
-    run-from = omega (arith, s .run-to, same-no (r + 1) 0 (λ z. absurd (omega arith)));
-    run-to = omega (arith, s .run-to, e);
-  }
-
--- before the end both parts are within the table and the data
-pub record Inside (c : Code) (at from to : ℕ) : Type 0 where
-  pub run-some : from ≤ to
-  pub run-in : to ≤ length (c .positions)
+-- both parts are within the table and the data
+pub record Inside (c : Code) (at from each : ℕ) : Type 0 where
+  pub run-in : from + each ≤ length (c .positions)
   pub data-in : at + c .k ≤ dataCount c
+
+-- what is lent for branch r: the rest of its run, and its data
+pub record Lent (c : Code) (u : List ℕ) (r : ℕ) (run part : List ℕ) : Type 0 where
+  pub here : r < c .b
+  pub run-is : run ≡ restOf c r
+  pub data-is : part ≡ branchData c u r
 
 module _ (c : Code) (l : TableLimits c) where
   -- the first position, which is that of run 0; and branch 0 of the data
@@ -87,34 +80,40 @@ module _ (c : Code) (l : TableLimits c) where
   pub one-branch : c .k ≤ dataCount c
   one-branch = omega (arith, branch-inside c 0 (l .sizes .b-low))
 
-  pub stands-inside : (r at from to : ℕ) → r < c .b → Stands c r at from to → Inside c at from to
-  stands-inside r at from to h s = record {
-    run-some = omega (arith, s .run-from, s .run-to, same-le r 0, l .sizes .J-low);
-    run-in = omega (arith, s .run-to, run-inside c (l .sizes) r h);
-    data-in = omega (arith, s .data-at, branch-inside c r h);
-  }
+  module _ (each : ℕ) (e : each ≡ checksEach c) where
+    -- branch 0
+    pub run-length : (1 ≤ each) × (each ≤ length (c .positions))
+    run-length = (omega (arith, e, l .sizes .J-low), omega (arith, e, run-inside c (l .sizes) 0 (l .sizes .b-low)))
 
-  -- the rest of run r as it is lent
-  rest-part : (r at from to : ℕ) → r < c .b → Stands c r at from to → take (to - from) (drop from (c .positions)) ≡ restOf c r
-  unfolding restOf branchAt
-  rest-part r at from to h s =
-      let J : ℕ = checksEach c in
-      rw (s .run-from, s .run-to, sym (drop-drop (same r 0) (r * J) (c .positions)))
-      (ap (λ (n : ℕ). take n (drop (same r 0) (drop (r * J) (c .positions)))) (let z : r * J + J - (r * J + same r 0) ≡ J - same r 0 = omega arith in z)
-      ∙ sym (drop-take (same r 0) J (drop (r * J) (c .positions)) (omega (arith, same-le r 0, l .sizes .J-low))
-      (omega (arith, same-le r 0, l .sizes .J-low, length-drop (r * J) (c .positions), run-inside c (l .sizes) r h))))
+    pub first-lent : (u : List ℕ) → Lent c u 0 (take (each - 1) (drop 1 (c .positions))) (take (c .k) u)
+    unfolding restOf same branchAt
+    first-lent u = record {
+      here = l .sizes .b-low;
+      run-is = rw (e, zero-mul (checksEach c)) (sym (drop-take 1 (checksEach c) (c .positions) (l .sizes .J-low) some-position));
+      data-is = rw (zero-mul (c .k)) refl;
+    }
 
-  pub part-ascending : (r at from to : ℕ) → r < c .b → Stands c r at from to → Ascending (c .k) (take (to - from) (drop from (c .positions)))
-  unfolding restOf
-  part-ascending r at from to h s = rw (rest-part r at from to h s) (ascending-drop (c .k) (branchAt c r) (same r 0) (l .ascending r h))
+    -- the branches after it, one after the other
+    pub stands-first : Stands c 1 (c .k) each
+    stands-first = record { later = omega arith; within = l .sizes .b-low; data-at = omega arith; run-at = omega (arith, e) }
 
-  -- what the sums become with it and branch r of the data, as they are lent
-  pub rest-added : (u s₀ s : List ℕ) (r at from to : ℕ) → length u ≡ dataCount c → r < c .b → Stands c r at from to → s ≡ added (c .q) (restSum c u r) s₀
-      → let part : List ℕ = take (at + c .k - at) (drop at u) in
-      added (c .q) (checkSumBy (length part) (take (to - from) (drop from (c .positions))) part) s ≡ added (c .q) (restSum c u (r + 1)) s₀
-  rest-added u s₀ s r at from to len h w e =
-      rw (part-length at (c .k) u (omega (arith, stands-inside r at from to h w .data-in)), rest-part r at from to h w, data-part c u r at (w .data-at), e)
-      (rest-turn c u r s₀)
+    module _ (r at from : ℕ) (h : r < c .b) (s : Stands c r at from) where
+      pub stands-next : Stands c (r + 1) (at + c .k) (from + each)
+      stands-next = record { later = omega arith; within = omega arith; data-at = omega (arith, s .data-at); run-at = omega (arith, s .run-at, e) }
+
+      pub stands-inside : Inside c at from each
+      stands-inside = record {
+        run-in = omega (arith, e, s .run-at, run-inside c (l .sizes) r h);
+        data-in = omega (arith, s .data-at, branch-inside c r h);
+      }
+
+      pub next-lent : (u : List ℕ) → Lent c u r (take (from + each - from) (drop from (c .positions))) (take (at + c .k - at) (drop at u))
+      unfolding restOf
+      next-lent u = record {
+        here = h;
+        run-is = rw (e, same-no r 0 (λ z. absurd (omega (arith, s .later)))) (run-part c r from (s .run-at));
+        data-is = data-part c u r at (s .data-at);
+      }
 
   -- all of a run's rows, by what is left of them
   rest-other : (u : List ℕ) (i r : ℕ) → r ≢ 0 → checkSumBy (c .k) (restOf c r) (branchData c u r) i ≡ checkSumBy (c .k) (branchAt c r) (branchData c u r) i
@@ -126,8 +125,7 @@ module _ (c : Code) (l : TableLimits c) where
   unfolding restOf same checkSumBy sumOver
   rest-first u i =
       ap (λ (ps : List ℕ). checkSumBy (c .k) ps (branchData c u 0) i) (drop-cons (branchAt c 0) 0 0 (rw (branch-length c l 0 (l .sizes .b-low)) (l .sizes .J-low)))
-      ∙ ap (λ (p : ℕ). getD (branchData c u 0) (sub (c .k) i p) 0 + checkSumBy (c .k) (drop 1 (branchAt c 0)) (branchData c u 0) i)
-      first-position
+      ∙ ap (λ (p : ℕ). getD (branchData c u 0) (sub (c .k) i p) 0 + checkSumBy (c .k) (drop 1 (branchAt c 0)) (branchData c u 0) i) first-position
       ∙ ap (λ (x : ℕ). getD (take (c .k) (drop x u)) (sub (c .k) i (getD (c .positions) 0 0)) 0 + checkSumBy (c .k) (drop 1 (branchAt c 0)) (branchData c u 0) i)
       (zero-mul (c .k))
 
@@ -141,3 +139,24 @@ module _ (c : Code) (l : TableLimits c) where
         (λ r h n. rest-other u i r n),
     rest-first u i,
   )
+
+-- what the rows of branch r are added to, and what that makes
+module _ (c : Code) (b : ByteCode c) (u : List ℕ) (w : SymbolsBelow (c .q) (dataCount c) u) (r : ℕ) (run part : List ℕ) (t : Lent c u r run part) where
+  lent-length : length part ≡ c .k
+  lent-length =
+      ap length (t .data-is)
+      ∙ length-take-le (c .k) (drop (r * c .k) u) (omega (arith, length-drop (r * c .k) u, branch-inside c r (t .here), w .len))
+
+  pub lent-asks : (s : List ℕ) → SymbolsBelow (c .q) (c .k) s
+      → (2 ≤ c .q) × (c .q ≤ 256) × Ascending (length part) run × Below (c .q) part × SymbolsBelow (c .q) (length part) s
+  unfolding restOf
+  lent-asks s h = (
+    b .q-low,
+    b .q-high,
+    rw (lent-length, t .run-is) (ascending-drop (c .k) (branchAt c r) (same r 0) (b .table .ascending r (t .here))),
+    subst (Below (c .q)) (sym (t .data-is)) (below-part (c .q) (omega (arith, b .q-low)) (r * c .k) (c .k) u (w .low)),
+    rw lent-length h,
+  )
+
+  pub rest-added : (s₀ s : List ℕ) → s ≡ added (c .q) (restSum c u r) s₀ → added (c .q) (checkSumBy (length part) run part) s ≡ added (c .q) (restSum c u (r + 1)) s₀
+  rest-added s₀ s e = rw (lent-length, t .run-is, t .data-is, e) (rest-turn c u r s₀)

@@ -23,7 +23,7 @@ added-ext : (q : ℕ) (f g : ℕ → ℕ) (s : List ℕ) → ((i : ℕ) → i < 
 unfolding added
 added-ext q f g s h = tabulate-ext (length s) _ _ (λ i l. ap (add q (getD s i 0)) (h i l))
 
--- twice
+-- twice, and 0
 pub added-more : (q : ℕ) (f g : ℕ → ℕ) (s : List ℕ) → added q g (added q f s) ≡ added q (λ i. f i + g i) s
 unfolding added add
 added-more q f g s =
@@ -51,7 +51,7 @@ each-added : (q : ℕ) (s ys : List ℕ) → addEach q s ys ≡ added q (λ i. g
 unfolding addEach added
 each-added q s ys = refl
 
--- sums that are a row, a row less another list, and sums with a row added are symbols
+-- a row, a row less another list, and sums with a row added are symbols
 module _ (q : ℕ) (pos : zero < q) (n : ℕ) where
   pub row-below : (p : ℕ) (u : List ℕ) → SymbolsBelow q n u → SymbolsBelow q n (row p u)
   unfolding row

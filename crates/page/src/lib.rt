@@ -36,8 +36,8 @@ fn add_rows(q: u32, positions: &[u16], data: &[u8], sums: &mut [u8])
     }
 }
 
-// The rows of all positions but the first of the table, added to the sums, branch by branch: branch r of the data starts at `at`,
-// and what is left of its run goes from `from` up to `to`.
+// The rows of all positions but the first of the table, added to the sums: those of branch 0, then branch by branch. Branch r of the data starts at `at`,
+// and its run at `from`.
 fn add_branches(code: Params, positions: &[u16], data: &[u8], sums: &mut [u8])
     requires { ⌜ ByteCode (codeBy code (now positions))
         × SymbolsBelow (code .q) (dataCount (codeBy code (now positions))) (now «data»)
@@ -46,15 +46,19 @@ fn add_branches(code: Params, positions: &[u16], data: &[u8], sums: &mut [u8])
 {
     let k = code.k;
     let each = params::checks_each(code, positions.len());
-    let mut r = 0;
-    let mut at = 0;
-    let mut from = 1;
-    let mut to = each;
+    add_rows(code.q, &positions[1..each], &data[..k], sums);
+    let mut r = 1;
+    let mut at = k;
+    let mut from = each;
     while r < code.b {
-        add_rows(code.q, &positions[from..to], &data[at..at + k], sums);
+        add_rows(
+            code.q,
+            &positions[from..from + each],
+            &data[at..at + k],
+            sums,
+        );
         at += k;
-        from = to;
-        to += each;
+        from += each;
         r += 1;
     }
 }

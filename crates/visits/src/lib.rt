@@ -72,10 +72,12 @@ pub fn change_at(
     ensures { λ _. ⌜ stateBy (now (result .exit)) (now (syndrome .exit)) (now (difference .exit))
         ≡ change (code .q) (checksOf (codeBy code (now (positions .entry))) (place .symbol)) (place .symbol) h (stateBy (now (result .entry)) (now (syndrome .entry)) (now (difference .entry))) ⌝ }
 {
+    let j = place.symbol;
     let first = place.first;
-    let last = place.last;
-    subtract_symbol(code, place.symbol, h, result, difference);
-    checks::subtract_at(code, &positions[first..last], place.index, h, syndrome);
+    let last = first + place.each;
+    let index = j + code.k - place.end;
+    subtract_symbol(code, j, h, result, difference);
+    checks::subtract_at(code, &positions[first..last], index, h, syndrome);
 }
 
 // h0 where estimates are a change at a threshold, else 0. A change needs a leader that stands more often among the
@@ -162,12 +164,13 @@ pub fn visit(
 {
     let j = place.symbol;
     let first = place.first;
-    let last = place.last;
+    let last = first + place.each;
+    let index = j + code.k - place.end;
     let own = difference[j];
     let h = voted(
         code,
         &positions[first..last],
-        place.index,
+        index,
         threshold,
         own,
         zeros[j],

@@ -147,10 +147,11 @@ pub fn subtract_checks(
 {
     let top = symbols::highest(code.q);
     let first = place.first;
-    let each = place.last - first;
+    let each = place.each;
+    let index = place.symbol + code.k - place.end;
     let mut i = 0;
     while i < each {
-        let c = checks::check_of(code.k, place.index, positions[first + i]);
+        let c = checks::check_of(code.k, index, positions[first + i]);
         let v = symbols::sub_mod(top, s[c], h);
         write_check(code, positions, each, c, v, s, zeros);
         i += 1;

@@ -57,36 +57,52 @@ loop-holds c =
     let b = c .before .before .before .before .before .before .before in
     (walk-first _ (b .pre .0 .table) _ _ (c .before .checks-each .ensures) e, rw e (front-none _ _ _ (omega (arith, b .pre .2, b .pre .3))))
 
+-- where the symbol is known to be inside, seen from where its run is lent
+abbrev turn : tie.After-struct-known4 Inv-loop μ-loop → tie.Then1 Inv-loop μ-loop
+turn c = c .before .before .before
+
+add-last : tie.Need-add-last Inv-loop μ-loop
+add-last c = omega (arith, place (c .before) .few)
+
+add-index : tie.Need-add-index Inv-loop μ-loop
+add-index c =
+    let t = c .before .before in
+    let z = start (t .before .before) .pre .0 .table .sizes in
+    omega (arith, inside t, z .data-high, z .k-high)
+
+sub-index : tie.Need-sub-index Inv-loop μ-loop
+sub-index c = place (turn c) .end-low
+
 mul-margin-at : tie.Need-mul-margin-at Inv-loop μ-loop
-mul-margin-at c = omega (arith, place c .few, place c .first-last)
+mul-margin-at c = omega (arith, place (turn c) .few)
 
 sub-margin-at : tie.Need-sub-margin-at Inv-loop μ-loop
-sub-margin-at c = place c .first-last
+sub-margin-at c = omega arith
 
 part-margin-at-start : tie.Need-part-margin-at-start Inv-loop μ-loop
-part-margin-at-start c = place c .first-last
+part-margin-at-start c = omega arith
 
 part-margin-at-end : tie.Need-part-margin-at-end Inv-loop μ-loop
-part-margin-at-end c = place c .last-in
+part-margin-at-end c = place (turn c) .last-in
 
 shared-slice-read-margin-at : tie.Need-shared-slice-read-margin-at Inv-loop μ-loop
-shared-slice-read-margin-at c = c .before .before .if1 .taken
+shared-slice-read-margin-at c = turn (c .before .before) .if1 .taken
 
 shared-slice-read-margin-at-2 : tie.Need-shared-slice-read-margin-at-2 Inv-loop μ-loop
 shared-slice-read-margin-at-2 c =
-    let t = c .before .before .before in
+    let t = turn (c .before .before .before) in
     let b = start (t .before .before) in
     omega (arith, inside t, ap length (b .pre .1), length-zeroCounts (codeAt (t .before .before)) (b .args .s .now))
 
 margin-at-requires : tie.Need-margin-at-requires Inv-loop μ-loop
 margin-at-requires c κs =
-    let t = c .before .before .before in
+    let t = turn (c .before .before .before) in
     let g = place t in
     (g .checks-lent, g .index-low, placed-zeros g (inside t) _ (start (t .before .before) .pre .1))
 
 mul-put-word : tie.Need-mul-put-word Inv-loop μ-loop
 mul-put-word c =
-    let t = c .before .before .before .before .before in
+    let t = turn (c .before .before .before .before .before) in
     omega (arith, inside t, start (t .before .before) .pre .0 .table .sizes .data-high)
 
 twos-of-requires : tie.Need-twos-of-requires Inv-loop μ-loop
@@ -94,31 +110,31 @@ twos-of-requires c κs = search needs
 
 put-word-requires : tie.Need-put-word-requires Inv-loop μ-loop
 put-word-requires c κs =
-    let t = c .before .before .before .before .before .before in
+    let t = turn (c .before .before .before .before .before .before) in
     omega (arith, t .before .before .loop .inv .1 .len, t .if1 .taken)
 
 next-requires : tie.Need-next-requires Inv-loop μ-loop
 next-requires c κs =
-    let t = c .before .before .before .before .before .before .before .before .before in
+    let t = turn (c .before .before .before .before .before .before .before .before .before) in
     let l = t .before .before in
     next-fits (start l .pre .0 .table) (walk-placed (l .loop .inv .0) (inside t)) (place t)
 
 -- the next place
-next-place : (c : tie.After-next Inv-loop μ-loop) → (c .next .result .symbol ≡ c .before .before .before .before .before .before .before .before .before .before .before .before .loop .place .symbol + 1) × Walk (codeAt (c .before .before .before .before .before .before .before .before .before .before .before .before)) (c .next .result)
+next-place : (c : tie.After-next Inv-loop μ-loop) → (c .next .result .symbol ≡ c .before .before .before .before .before .before .before .before .before .before .before .before .before .before .before .loop .place .symbol + 1) × Walk (codeAt (c .before .before .before .before .before .before .before .before .before .before .before .before .before .before .before)) (c .next .result)
 next-place c =
-    let t = c .before .before .before .before .before .before .before .before .before .before in
+    let t = turn (c .before .before .before .before .before .before .before .before .before .before) in
     let l = t .before .before in
     walk-next (l .loop .inv .0) (start l .pre .0 .table) (inside t) _ (c .next .ensures)
 
 loop-less : tie.Need-loop-less Inv-loop μ-loop
-loop-less c = omega (arith, next-place c .0, c .before .before .before .before .before .before .before .before .before .before .if1 .taken)
+loop-less c = omega (arith, next-place c .0, turn (c .before .before .before .before .before .before .before .before .before .before) .if1 .taken)
 
 loop-again : tie.Need-loop-again Inv-loop μ-loop
 loop-again c =
     let put = c .before .before .before in
     let w = put .before in
     let m = w .before .before in
-    let t = m .before .before .before .before in
+    let t = turn (m .before .before .before .before) in
     let n = next-place c in (
       n .1,
       rw (n .0) (front-turn _ _ _ _ (t .before .before .loop .inv .1) (t .if1 .taken) _ _
@@ -146,6 +162,9 @@ write-margins-spec =
     checks-each-requires
     start-requires
     loop-holds
+    add-last
+    add-index
+    sub-index
     mul-margin-at
     sub-margin-at
     part-margin-at-start

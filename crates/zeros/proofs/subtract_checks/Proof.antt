@@ -1,57 +1,64 @@
 -- `subtract_checks`: h is subtracted at the checks by the first i positions of the run, and the zeros are counted as the syndrome then stands.
 use mathlib.Core.Path.{_≡_, _∙_, ap, sym}
-use Prim.Native.Nat.{ℕ, _+_, _-_, _/_, _%_, _<_}
+use mathlib.Core.List.{List}
+use Prim.Native.Nat.{ℕ, _+_, _-_, _%_, _<_}
 use native.Mathlib.Omega.{arith}
-use lib.ListN.{length, getD}
-use Rattle.model.specs.Code.{Code, branchAt, checksBy, checksOf}
+use lib.ListN.{length, getD, take, drop}
+use Rattle.model.specs.Code.{Code}
 use Rattle.model.specs.Symbols.{sub, subtractAt}
 use Rattle.params.specs.Codes.{codeBy}
-use Rattle.theory.specs.Branches.{branch-of, branch-length}
 use Rattle.checks.specs.Checks.{AtChecks, at-checks-of, by-position, check-inside, Subtracted, subtract-none, subtract-below, subtract-turn, subtract-all}
 use Rattle.checks.specs.Places.{Found, found, at-table-of}
 use Rattle.zeros.specs.Counts.{zeroCounts, length-zeroCounts}
 use Rattle.zeros.proofs.subtract_checks.Statement.{statement}
 use Rattle.zeros.proofs.subtract_checks.Tie as tie
 
+-- the run of `each` positions from `first` on
+abbrev runAt : List ℕ → ℕ → ℕ → List ℕ
+runAt positions first each = take (first + each - first) (drop first positions)
+
 abbrev Inv-loop : tie.InvT-loop
-Inv-loop code positions place h s₀ zeros₀ top first each i₀ s zeros i =
-    Subtracted (code .q) h (code .k) (branchAt (codeBy code positions) (place .symbol / code .k)) (place .index) s₀ i s × (zeros ≡ zeroCounts (codeBy code positions) s)
+Inv-loop code positions h s₀ zeros₀ top first each index i₀ s zeros i =
+    Subtracted (code .q) h (code .k) (runAt positions first each) index s₀ i s × (zeros ≡ zeroCounts (codeBy code positions) s)
 
 abbrev μ-loop : tie.MeasureT-loop
-μ-loop code positions place h s₀ zeros₀ top first each i₀ s zeros i = each - i
+μ-loop code positions h s₀ zeros₀ top first each index i₀ s zeros i = each - i
 
--- the start, seen from the loop, the code, and what the place is good for
+-- the start, seen from the loop, the code, the run, and what the place is good for
 abbrev start : tie.At-loop Inv-loop μ-loop → tie.Start Inv-loop μ-loop
-start c = c .before .before .before .before .before .before
+start c = c .before .before .before .before .before .before .before .before
 
 abbrev code : tie.Start Inv-loop μ-loop → Code
 code c = codeBy (c .args .code) (c .args .positions .now)
+
+abbrev run : tie.Start Inv-loop μ-loop → List ℕ
+run c = runAt (c .args .positions .now) (c .args .place .first) (c .args .place .each)
 
 place : (c : tie.Start Inv-loop μ-loop) → Found (code c) (c .args .s .now) (c .args .place)
 place c = found (c .pre .0) (c .pre .1)
 
 -- the syndrome in the loop is at the checks still
-at : (c : tie.At-loop Inv-loop μ-loop) → AtChecks (start c .args .code .k) (branchAt (code (start c)) (start c .args .place .symbol / start c .args .code .k)) (c .loop .s)
-at c = at-checks-of (place (start c) .checks) (c .loop .s) (c .loop .inv .0 .sized)
-
--- the run is passed where all its positions are
-passed : (c : tie.At-loop Inv-loop μ-loop) → length (branchAt (code (start c)) (start c .args .place .symbol / start c .args .code .k)) ≡ start c .args .place .last - start c .args .place .first
-passed c =
-    let b = start c in
-    branch-length (code b) (b .pre .0 .table) _ (branch-of (code b) (b .pre .0 .table) _ (b .pre .1 .inside)) ∙ sym (place b .each)
+at : (c : tie.At-loop Inv-loop μ-loop) → AtChecks (start c .args .code .k) (run (start c)) (c .loop .s)
+at c = at-checks-of (place (start c) .checks-lent) (c .loop .s) (c .loop .inv .0 .sized)
 
 -- a position of the run is next
-inside : (c : tie.In-loop Inv-loop μ-loop) → c .before .loop .i < length (branchAt (code (start (c .before))) (start (c .before) .args .place .symbol / start (c .before) .args .code .k))
-inside c = omega (arith, passed (c .before))
+inside : (c : tie.In-loop Inv-loop μ-loop) → c .before .loop .i < length (run (start (c .before)))
+inside c = omega (arith, place (start (c .before)) .run-length)
 
 highest-requires : tie.Need-highest-requires Inv-loop μ-loop
 highest-requires c κs = omega arith
 
-sub-each : tie.Need-sub-each Inv-loop μ-loop
-sub-each c = place (c .before .before .before .before .before) .first-last
+add-index : tie.Need-add-index Inv-loop μ-loop
+add-index c =
+    let b = c .before .before .before .before .before .before in
+    let z = b .pre .0 .table .sizes in
+    omega (arith, b .pre .1 .inside, z .data-high, z .k-high)
+
+sub-index : tie.Need-sub-index Inv-loop μ-loop
+sub-index c = place (c .before .before .before .before .before .before .before) .end-low
 
 loop-holds : tie.Need-loop-holds Inv-loop μ-loop
-loop-holds c = (subtract-none _ _ _ _ _ _, c .before .before .before .before .before .pre .5)
+loop-holds c = (subtract-none _ _ _ _ _ _, c .before .before .before .before .before .before .before .pre .5)
 
 add-check-of : tie.Need-add-check-of Inv-loop μ-loop
 add-check-of c = omega (arith, place (start (c .before)) .few)
@@ -60,13 +67,13 @@ mul-check-of : tie.Need-mul-check-of Inv-loop μ-loop
 mul-check-of c = omega (arith, place (start (c .before)) .few)
 
 shared-slice-read-check-of : tie.Need-shared-slice-read-check-of Inv-loop μ-loop
-shared-slice-read-check-of c = let l = c .before .before in omega (arith, place (start l) .last-in, place (start l) .first-last)
+shared-slice-read-check-of c = omega (arith, place (start (c .before .before)) .last-in)
 
 check-of-requires : tie.Need-check-of-requires Inv-loop μ-loop
 check-of-requires c κs =
     let l = c .before .before in
     let g = place (start l) in
-    rw (g .position (l .loop .i) (omega (arith, g .each))) (by-position (g .checks) _ (l .loop .i) (g .index-low) (omega (arith, passed l)))
+    rw (g .position (l .loop .i) (omega arith)) (by-position (g .checks-lent) _ (l .loop .i) (g .index-low) (inside (c .before)))
 
 slice-read-sub-mod : tie.Need-slice-read-sub-mod Inv-loop μ-loop
 slice-read-sub-mod c = check-inside (at (c .before .before .before .before)) _ _ (c .before .check-of .ensures)
@@ -75,13 +82,13 @@ sub-mod-requires : tie.Need-sub-mod-requires Inv-loop μ-loop
 sub-mod-requires c κs =
     let l = c .before .before .before .before in
     let low = subtract-below (l .loop .inv .0) (omega arith) (start l .pre .4) in
-    omega (arith, low (c .before .check-of .result), l .before .before .highest .ensures)
+    omega (arith, low (c .before .check-of .result), l .before .before .before .before .highest .ensures)
 
 write-check-requires : tie.Need-write-check-requires Inv-loop μ-loop
 write-check-requires c κs =
     let l = c .before .before .before .before .before .before .before in
     let b = start l in
-    (at-table-of (b .pre .0) (l .loop .s) (l .loop .inv .0 .sized), place b .each, omega (arith, at l .len, slice-read-sub-mod (c .before .before .before)), l .loop .inv .1)
+    (at-table-of (b .pre .0) (l .loop .s) (l .loop .inv .0 .sized), place b .each-is, omega (arith, at l .len, slice-read-sub-mod (c .before .before .before)), l .loop .inv .1)
 
 add-i : tie.Need-add-i Inv-loop μ-loop
 add-i c = omega arith
@@ -93,12 +100,13 @@ loop-again : tie.Need-loop-again Inv-loop μ-loop
 loop-again c =
     let o = c .before .before .before .before .before .before .before .before .before .before .before in
     let l = o .before in
+    let a = start l .args in
     let g = place (start l) in
     let w = c .before .before .before .before .write-check .ensures in
     let chk = c .before .before .before .before .before .before .before .before .before .check-of in (
       subtract-turn (l .loop .inv .0) _ _ _ (inside o)
-          (chk .ensures ∙ ap (λ (p : ℕ). (start l .args .place .index + p) % start l .args .code .k) (g .position (l .loop .i) (omega (arith, inside o, passed l, g .each))))
-          (c .before .before .before .before .before .before .before .sub-mod .ensures ∙ ap (λ (q : ℕ). sub q (getD (l .loop .s) (chk .result) 0) (start l .args .h)) (l .before .before .highest .ensures)) (w .0),
+          (chk .ensures ∙ ap (λ (p : ℕ). (a .place .symbol + a .code .k - a .place .end + p) % a .code .k) (g .position (l .loop .i) (omega (arith, inside o, g .run-length))))
+          (c .before .before .before .before .before .before .before .sub-mod .ensures ∙ ap (λ (q : ℕ). sub q (getD (l .loop .s) (chk .result) 0) (a .h)) (l .before .before .before .before .highest .ensures)) (w .0),
       w .1 ∙ ap (zeroCounts _) (sym (w .0)),
     )
 
@@ -109,12 +117,11 @@ same-length-2 : tie.Need-same-length-2 Inv-loop μ-loop
 same-length-2 c = ap length (c .before .loop .inv .1) ∙ length-zeroCounts _ _ ∙ sym (ap length (start (c .before) .pre .5) ∙ length-zeroCounts _ _)
 
 returns : tie.Need-returns Inv-loop μ-loop
-unfolding checksOf
 returns c =
     let l = c .before in
     let b = start l in (
-      subtract-all (l .loop .inv .0) (omega (arith, passed l))
-          ∙ ap (λ (i : ℕ). subtractAt (b .args .code .q) (b .args .h) (checksBy (b .args .code .k) (branchAt (code b) (b .args .place .symbol / b .args .code .k)) i) (b .args .s .now)) (place b .index-is),
+      subtract-all (l .loop .inv .0) (omega (arith, place b .run-length))
+          ∙ ap (λ (is : List ℕ). subtractAt (b .args .code .q) (b .args .h) is (b .args .s .now)) (place b .checks-are),
       l .loop .inv .1,
     )
 
@@ -125,7 +132,8 @@ subtract-checks-spec =
     Inv-loop
     μ-loop
     highest-requires
-    sub-each
+    add-index
+    sub-index
     loop-holds
     add-check-of
     mul-check-of
