@@ -7,38 +7,46 @@ use native.Mathlib.Decide.{ℕ-discrete}
 use native.Mathlib.Omega.{arith}
 use lib.Arith.{digits-div}
 use lib.Dec.{eqb}
-use lib.ListN.{length, getD, take, drop}
+use lib.ListN.{length, getD, take, drop, length-take, length-drop}
 use lib.Seq.{getD-take, getD-drop}
 use Rattle.model.specs.Code.{Code, dataCount, checkCount, checksEach, branchAt, checksBy, checksOf}
 use Rattle.model.specs.Limits.{TableLimits}
 use Rattle.model.specs.Symbols.{choose}
 use Rattle.theory.specs.Branches.{branch-of, run-part, run-inside}
 use Rattle.theory.specs.Counting.{eqb-yes, eqb-no}
-use Rattle.theory.specs.Parts.{part-length}
 use Rattle.checks.specs.Checks.{AtChecks, at-run}
 use Rattle.checks.specs.declared.Place.{Place}
 
 -- the place of data symbol j
 abbrev pub placeAt : Code → ℕ → Place
-placeAt c j = record { symbol = j; end = j / c .k * c .k + c .k; first = j / c .k * checksEach c; each = checksEach c }
+placeAt c j = record {
+  symbol = j;
+  start = j / c .k * c .k;
+  end = j / c .k * c .k + c .k;
+  first = j / c .k * checksEach c;
+  last = j / c .k * checksEach c + checksEach c;
+}
 
 -- the place after another
 unfoldable pub nextPlace : ℕ → Place → Place
 nextPlace k p =
     choose (eqb (p .symbol + 1) (p .end))
-    (record { symbol = p .symbol + 1; end = p .end + k; first = p .first + p .each; each = p .each })
-    (record { symbol = p .symbol + 1; end = p .end; first = p .first; each = p .each })
+    (record { symbol = p .symbol + 1; start = p .end; end = p .end + k; first = p .last; last = p .last + (p .last - p .first) })
+    (record { symbol = p .symbol + 1; start = p .start; end = p .end; first = p .first; last = p .last })
 
-place-by : (j e e′ f f′ n n′ : ℕ) → e ≡ e′ → f ≡ f′ → n ≡ n′ → _≡_ {A = Place} (record { symbol = j; end = e; first = f; each = n }) (record { symbol = j; end = e′; first = f′; each = n′ })
-place-by j e e′ f f′ n n′ a b c = λ o. record { symbol = j; end = a o; first = b o; each = c o }
+-- two places of one number, by the branch's symbols and its run
+place-by : (j : ℕ) {s s′ e e′ f f′ l l′ : ℕ} → s ≡ s′ → e ≡ e′ → f ≡ f′ → l ≡ l′
+    → _≡_ {A = Place} (record { symbol = j; start = s; end = e; first = f; last = l }) (record { symbol = j; start = s′; end = e′; first = f′; last = l′ })
+place-by j a b c d = λ o. record { symbol = j; start = a o; end = b o; first = c o; last = d o }
 
 -- the first place
-pub place-first : (c : Code) → 1 ≤ c .k → (each : ℕ) → each ≡ checksEach c → _≡_ {A = Place} (record { symbol = 0; end = c .k; first = 0; each = each }) (placeAt c 0)
+pub place-first : (c : Code) → 1 ≤ c .k → (each : ℕ) → each ≡ checksEach c
+    → _≡_ {A = Place} (record { symbol = 0; start = 0; end = c .k; first = 0; last = each }) (placeAt c 0)
 place-first c h each e =
     let d : 0 / c .k ≡ 0 = ap (λ (x : ℕ). x / c .k) (let z : 0 ≡ 0 * c .k + 0 = omega (arith, zero-mul (c .k)) in z) ∙ digits-div 0 {m = c .k} h in
     let y : 0 / c .k * c .k ≡ 0 = ap (λ (x : ℕ). x * c .k) d ∙ zero-mul (c .k) in
     let z : 0 / c .k * checksEach c ≡ 0 = ap (λ (x : ℕ). x * checksEach c) d ∙ zero-mul (checksEach c) in
-    place-by 0 _ _ _ _ _ _ (omega (arith, y)) (sym z) e
+    place-by 0 (sym y) (omega (arith, y)) (sym z) (omega (arith, z))
 
 -- and each next one
 pub place-next : (c : Code) → 1 ≤ c .k → (j : ℕ) → nextPlace (c .k) (placeAt c j) ≡ placeAt c (j + 1)
@@ -49,12 +57,13 @@ place-next c h j = elim (ℕ-discrete (j + 1) (j / c .k * c .k + c .k)) as (λ o
       let d : (j + 1) / c .k ≡ suc (j / c .k) = ap (λ (x : ℕ). x / c .k) w ∙ digits-div (suc (j / c .k)) {m = c .k} h in
       let g : (j + 1) / c .k * c .k ≡ j / c .k * c .k + c .k = ap (λ (x : ℕ). x * c .k) d ∙ omega arith in
       let f : (j + 1) / c .k * checksEach c ≡ j / c .k * checksEach c + checksEach c = ap (λ (x : ℕ). x * checksEach c) d ∙ omega arith in
-      place-by (j + 1) _ _ _ _ _ _ (omega (arith, g)) (sym f) refl)
+      place-by (j + 1) (sym g) (omega (arith, g)) (sym f) (omega (arith, f)))
   | no n ↦ rw (eqb-no (j + 1) (j / c .k * c .k + c .k) n)
       (let l : j % c .k + 1 < c .k = omega (arith, div-add-mod' j (c .k), mod-lt j {m = c .k} h) in
       let w : j + 1 ≡ j / c .k * c .k + (j % c .k + 1) = omega (arith, div-add-mod' j (c .k)) in
       let d : (j + 1) / c .k ≡ j / c .k = ap (λ (x : ℕ). x / c .k) w ∙ digits-div (j / c .k) {m = c .k} l in
-      place-by (j + 1) _ _ _ _ _ _ (ap (λ (x : ℕ). x * c .k + c .k) (sym d)) (ap (λ (x : ℕ). x * checksEach c) (sym d)) refl)
+      place-by (j + 1) (ap (λ (x : ℕ). x * c .k) (sym d)) (ap (λ (x : ℕ). x * c .k + c .k) (sym d)) (ap (λ (x : ℕ). x * checksEach c) (sym d))
+      (ap (λ (x : ℕ). x * checksEach c + checksEach c) (sym d)))
 ]
 
 -- ---- places of a table within its limits
@@ -76,7 +85,7 @@ pub record Walk (c : Code) (p : Place) : Type 0 where
   pub within : p .symbol ≤ dataCount c
   pub here : p ≡ placeAt c (p .symbol)
 
-pub walk-first : (c : Code) → TableLimits c → (each : ℕ) (p : Place) → each ≡ checksEach c → p ≡ record { symbol = 0; end = c .k; first = 0; each = each } → Walk c p
+pub walk-first : (c : Code) → TableLimits c → (each : ℕ) (p : Place) → each ≡ checksEach c → p ≡ record { symbol = 0; start = 0; end = c .k; first = 0; last = each } → Walk c p
 walk-first c t each p e f =
     let w : p ≡ placeAt c 0 = f ∙ place-first c (t .sizes .k-low) each e in
     let z : p .symbol ≡ 0 = ap (λ (x : Place). x .symbol) w in
@@ -97,23 +106,24 @@ module _ {c : Code} {p : Place} (w : Walk c p) where
 
 -- what a place is good for: its run, and the checks there
 pub record Found (c : Code) (s : List ℕ) (p : Place) : Type 0 where
-  pub end-low : p .end ≤ p .symbol + c .k
-  pub index-low : p .symbol + c .k - p .end < c .k
-  pub index-is : p .symbol + c .k - p .end ≡ p .symbol % c .k
+  pub start-low : p .start ≤ p .symbol
+  pub index-low : p .symbol - p .start < c .k
+  pub index-is : p .symbol - p .start ≡ p .symbol % c .k
   pub end-few : p .end ≤ 8192
-  pub last-in : p .first + p .each ≤ length (c .positions)
-  pub few : p .first + p .each ≤ 256
-  pub each-is : p .each ≡ checksEach c
+  pub first-last : p .first ≤ p .last
+  pub last-in : p .last ≤ length (c .positions)
+  pub few : p .last ≤ 256
+  pub each : p .last - p .first ≡ checksEach c
   -- of the run as it is lent
-  pub run-length : length (take (p .first + p .each - p .first) (drop (p .first) (c .positions))) ≡ p .each
-  pub position : (i : ℕ) → i < p .each → getD (c .positions) (p .first + i) 0 ≡ getD (take (p .first + p .each - p .first) (drop (p .first) (c .positions))) i 0
-  pub checks-lent : AtChecks (c .k) (take (p .first + p .each - p .first) (drop (p .first) (c .positions))) s
-  pub checks-are : checksBy (c .k) (take (p .first + p .each - p .first) (drop (p .first) (c .positions))) (p .symbol + c .k - p .end) ≡ checksOf c (p .symbol)
+  pub run-length : length (take (p .last - p .first) (drop (p .first) (c .positions))) ≡ p .last - p .first
+  pub position : (i : ℕ) → i < p .last - p .first → getD (c .positions) (p .first + i) 0 ≡ getD (take (p .last - p .first) (drop (p .first) (c .positions))) i 0
+  pub checks-lent : AtChecks (c .k) (take (p .last - p .first) (drop (p .first) (c .positions))) s
+  pub checks-are : checksBy (c .k) (take (p .last - p .first) (drop (p .first) (c .positions))) (p .symbol - p .start) ≡ checksOf c (p .symbol)
 
 -- what the step to the next place asks
 pub next-fits : {c : Code} {s : List ℕ} {p : Place} → TableLimits c → Placed c p → Found c s p
-    → (c .k ≤ 4096) × (p .symbol < 4096) × (p .end ≤ 8192) × (p .first + p .each ≤ 256)
-next-fits t w f = (t .sizes .k-high, omega (arith, w .inside, t .sizes .data-high), f .end-few, f .few)
+    → (c .k ≤ 4096) × (p .symbol < 4096) × (p .end ≤ 8192) × (p .first ≤ p .last) × (p .last ≤ 256)
+next-fits t w f = (t .sizes .k-high, omega (arith, w .inside, t .sizes .data-high), f .end-few, f .first-last, f .few)
 
 module _ {c : Code} {s : List ℕ} (t : AtTable c s) where
   -- the same of another syndrome of that length
@@ -126,25 +136,28 @@ module _ {c : Code} {s : List ℕ} (t : AtTable c s) where
       let j : ℕ = p .symbol in
       let z = t .table .sizes in
       let J : ℕ = checksEach c in
+      let o : p .start ≡ j / c .k * c .k = ap (λ (x : Place). x .start) (w .here) in
       let g : p .end ≡ j / c .k * c .k + c .k = ap (λ (x : Place). x .end) (w .here) in
       let f : p .first ≡ j / c .k * J = ap (λ (x : Place). x .first) (w .here) in
-      let e : p .each ≡ J = ap (λ (x : Place). x .each) (w .here) in
-      let i : j + c .k - p .end ≡ j % c .k = omega (arith, g, div-add-mod' j (c .k)) in
+      let l : p .last ≡ j / c .k * J + J = ap (λ (x : Place). x .last) (w .here) in
+      let e : p .last ≡ p .first + J = omega arith in
+      let i : j - p .start ≡ j % c .k = omega (arith, o, div-add-mod' j (c .k)) in
       let b = branch-of c (t .table) j (w .inside) in
       let n = run-inside c z (j / c .k) b in
-      let run : take (p .first + p .each - p .first) (drop (p .first) (c .positions)) ≡ branchAt c (j / c .k) =
-      ap (λ (x : ℕ). take (p .first + x - p .first) (drop (p .first) (c .positions))) e ∙ run-part c (j / c .k) (p .first) f in
+      let run : take (p .last - p .first) (drop (p .first) (c .positions)) ≡ branchAt c (j / c .k) =
+      ap (λ (x : ℕ). take (x - p .first) (drop (p .first) (c .positions))) e ∙ run-part c (j / c .k) (p .first) f in
       let a = at-run c (t .table) (j / c .k) b s (t .len) in
       record {
-        end-low = omega (arith, g, div-add-mod' j (c .k));
+        start-low = omega (arith, o, div-add-mod' j (c .k));
         index-low = omega (arith, i, mod-lt j {m = c .k} (z .k-low));
         index-is = i;
         end-few = omega (arith, g, div-add-mod' j (c .k), w .inside, z .data-high, z .k-high);
-        last-in = omega (arith, n, f, e);
-        few = omega (arith, n, f, e, z .runs, z .J-high, mul-le-mul-right J (z .b-high));
-        each-is = e;
-        run-length = part-length (p .first) (p .each) (c .positions) (omega (arith, n, f, e));
-        position = (λ o h. sym (getD-take (p .first + p .each - p .first) (drop (p .first) (c .positions)) o 0 (omega arith) ∙ getD-drop (p .first) (c .positions) o 0));
+        first-last = omega arith;
+        last-in = omega (arith, n);
+        few = omega (arith, n, z .runs, z .J-high, mul-le-mul-right J (z .b-high));
+        each = omega arith;
+        run-length = length-take (p .last - p .first) (drop (p .first) (c .positions)) ∙ omega (arith, n, length-drop (p .first) (c .positions));
+        position = (λ h r. sym (getD-take (p .last - p .first) (drop (p .first) (c .positions)) h 0 r ∙ getD-drop (p .first) (c .positions) h 0));
         checks-lent = subst (λ (ps : List ℕ). AtChecks (c .k) ps s) (sym run) a;
-        checks-are = ap (λ (ps : List ℕ). checksBy (c .k) ps (j + c .k - p .end)) run ∙ ap (checksBy (c .k) (branchAt c (j / c .k))) i;
+        checks-are = ap (λ (ps : List ℕ). checksBy (c .k) ps (j - p .start)) run ∙ ap (checksBy (c .k) (branchAt c (j / c .k))) i;
       }

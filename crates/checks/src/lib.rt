@@ -9,47 +9,51 @@ ghost use Rattle.model.specs.Symbols.{Below, count, symbolsAt, subtractAt};
 ghost use Rattle.checks.specs.Checks.{AtChecks, estimatesBy};
 ghost use Rattle.checks.specs.Places.{nextPlace};
 
-// Where a data symbol stands: its number, the number after the last of its branch, and the run of that branch, which is `each`
-// positions of the table from `first` on. Its index in its branch is its number plus k less `end`.
+// Where a data symbol stands: its number; its branch, which is the data symbols from `start` to before `end`; and the run of that
+// branch, which is the positions of the table from `first` to before `last`.
 pub struct Place {
     pub symbol: usize,
+    pub start: usize,
     pub end: usize,
     pub first: usize,
-    pub each: usize,
+    pub last: usize,
 }
 
 impl Place {
     // Data symbol 0, of branches of k symbols and a table with this many positions a run.
-    pub fn start(k: usize, each: usize) -> Self
-        ensures { λ r. ⌜ r ≡ record { symbol = 0; end = k; first = 0; each = each } ⌝ }
+    pub fn opening(k: usize, each: usize) -> Self
+        ensures { λ r. ⌜ r ≡ record { symbol = 0; start = 0; end = k; first = 0; last = each } ⌝ }
     {
         Place {
             symbol: 0,
+            start: 0,
             end: k,
             first: 0,
-            each,
+            last: each,
         }
     }
 
     // The next data symbol: of the same branch, or the first of the next branch.
     pub fn next(self, k: usize) -> Self
-        requires { ⌜ (k ≤ 4096) × (self .symbol < 4096) × (self .end ≤ 8192) × (self .first + self .each ≤ 256) ⌝ }
+        requires { ⌜ (k ≤ 4096) × (self .symbol < 4096) × (self .end ≤ 8192) × (self .first ≤ self .last) × (self .last ≤ 256) ⌝ }
         ensures { λ r. ⌜ r ≡ nextPlace k self ⌝ }
     {
         let symbol = self.symbol + 1;
         if symbol == self.end {
             return Place {
                 symbol,
+                start: self.end,
                 end: self.end + k,
-                first: self.first + self.each,
-                each: self.each,
+                first: self.last,
+                last: self.last + (self.last - self.first),
             };
         }
         Place {
             symbol,
+            start: self.start,
             end: self.end,
             first: self.first,
-            each: self.each,
+            last: self.last,
         }
     }
 }

@@ -60,13 +60,13 @@ others-few es = omega (arith, zeros-others es)
 
 -- the zeros at the checks, from those of all data symbols
 pub placed-zeros : {c : Code} {s : List ℕ} {p : Place} → Found c s p → p .symbol < dataCount c → (zs : List ℕ) → zs ≡ zeroCounts c s
-    → getD zs (p .symbol) 0 ≡ count 0 (symbolsAt s (checksBy (c .k) (take (p .first + p .each - p .first) (drop (p .first) (c .positions))) (p .symbol + c .k - p .end)))
+    → getD zs (p .symbol) 0 ≡ count 0 (symbolsAt s (checksBy (c .k) (take (p .last - p .first) (drop (p .first) (c .positions))) (p .symbol - p .start)))
 placed-zeros {c} {s} {p} f h zs e =
     ap (λ (z : List ℕ). getD z (p .symbol) 0) e ∙ zeroCounts-at c s (p .symbol) h ∙ ap (λ (is : List ℕ). count 0 (symbolsAt s is)) (sym (f .checks-are))
 
 -- the margin
 pub placed-margin : {c : Code} {s : List ℕ} {p : Place} → Found c s p → (own : ℕ) (m : ℤ)
-    → m ≡ margin (estimatesBy (c .k) (take (p .first + p .each - p .first) (drop (p .first) (c .positions))) (p .symbol + c .k - p .end) own s) → m ≡ margin (estimatesAt c (p .symbol) own s)
+    → m ≡ margin (estimatesBy (c .k) (take (p .last - p .first) (drop (p .first) (c .positions))) (p .symbol - p .start) own s) → m ≡ margin (estimatesAt c (p .symbol) own s)
 placed-margin {c} {s} {p} f own m e = e ∙ ap (λ (is : List ℕ). margin (own ∷ symbolsAt s is)) (f .checks-are)
 
 -- ---- margins written from the front

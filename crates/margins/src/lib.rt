@@ -58,12 +58,12 @@ pub fn write_margins(
         × (length (now margins) ≡ dataCount (codeBy code (now positions))) ⌝ }
     ensures { λ _. ⌜ ((r : List ℕ) → now (margins .exit) ≡ marginsOf (codeBy code (now (positions .entry))) (stateBy r (now (s .entry)) (now (d .entry)))) ⌝ }
 {
-    let mut place = Place::start(code.k, params::checks_each(code, positions.len()));
+    let mut place = Place::opening(code.k, params::checks_each(code, positions.len()));
     while place.symbol < margins.len() {
         let j = place.symbol;
         let first = place.first;
-        let last = first + place.each;
-        let index = j + code.k - place.end;
+        let last = place.last;
+        let index = j - place.start;
         margins[j] = margin_at(code, &positions[first..last], index, d[j], zeros[j], s);
         place = place.next(code.k);
     }

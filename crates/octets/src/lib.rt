@@ -91,12 +91,12 @@ fn write_margins(code: Params, positions: &[u16], zeros: &[u8], s: &[u8], d: &[u
         × (length (now out) ≡ 4 * dataCount (codeBy code (now positions))) ⌝ }
     ensures { λ _. ⌜ ((r : List ℕ) → now (out .exit) ≡ marginBytes (marginsOf (codeBy code (now (positions .entry))) (stateBy r (now (s .entry)) (now (d .entry))))) ⌝ }
 {
-    let mut place = Place::start(code.k, params::checks_each(code, positions.len()));
+    let mut place = Place::opening(code.k, params::checks_each(code, positions.len()));
     while place.symbol < d.len() {
         let j = place.symbol;
         let first = place.first;
-        let last = first + place.each;
-        let index = j + code.k - place.end;
+        let last = place.last;
+        let index = j - place.start;
         let m = margins::margin_at(code, &positions[first..last], index, d[j], zeros[j], s);
         put_word(out, 4 * j, twos_of(m));
         place = place.next(code.k);

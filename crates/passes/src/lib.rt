@@ -42,7 +42,7 @@ fn run_counted(
         }
         let before = tally.changes;
         let threshold = thresholds[p];
-        let mut place = Place::start(code.k, each);
+        let mut place = Place::opening(code.k, each);
         while place.symbol < symbols {
             tally = visits::visit(
                 code,

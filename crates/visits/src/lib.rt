@@ -74,8 +74,8 @@ pub fn change_at(
 {
     let j = place.symbol;
     let first = place.first;
-    let last = first + place.each;
-    let index = j + code.k - place.end;
+    let last = place.last;
+    let index = j - place.start;
     subtract_symbol(code, j, h, result, difference);
     checks::subtract_at(code, &positions[first..last], index, h, syndrome);
 }
@@ -164,8 +164,8 @@ pub fn visit(
 {
     let j = place.symbol;
     let first = place.first;
-    let last = first + place.each;
-    let index = j + code.k - place.end;
+    let last = place.last;
+    let index = j - place.start;
     let own = difference[j];
     let h = voted(
         code,

@@ -147,8 +147,8 @@ pub fn subtract_checks(
 {
     let top = symbols::highest(code.q);
     let first = place.first;
-    let each = place.each;
-    let index = place.symbol + code.k - place.end;
+    let each = place.last - first;
+    let index = place.symbol - place.start;
     let mut i = 0;
     while i < each {
         let c = checks::check_of(code.k, index, positions[first + i]);

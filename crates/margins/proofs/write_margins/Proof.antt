@@ -45,38 +45,29 @@ place c = let l = c .before .before in found (start l .pre .0) (walk-placed (l .
 checks-each-requires : tie.Need-checks-each-requires Inv-loop μ-loop
 checks-each-requires c κs = c .before .before .before .before .pre .0 .table .sizes .b-low
 
-start-requires : tie.Need-start-requires Inv-loop μ-loop
-start-requires c κs = tt
+opening-requires : tie.Need-opening-requires Inv-loop μ-loop
+opening-requires c κs = tt
 
 loop-holds : tie.Need-loop-holds Inv-loop μ-loop
 loop-holds c =
-    let e = c .start .ensures in
+    let e = c .opening .ensures in
     (walk-first _ (c .before .before .before .before .before .before .pre .0 .table) _ _ (c .before .checks-each .ensures) e, rw e (front-none _ _))
 
 -- where the symbol is known to be inside, seen from where its run is lent
-abbrev turn : tie.After-struct-known4 Inv-loop μ-loop → tie.Then1 Inv-loop μ-loop
-turn c = c .before .before .before
-
-add-last : tie.Need-add-last Inv-loop μ-loop
-add-last c = omega (arith, place (c .before) .few)
-
-add-index : tie.Need-add-index Inv-loop μ-loop
-add-index c =
-    let t = c .before .before in
-    let z = start (t .before .before) .pre .0 .table .sizes in
-    omega (arith, inside t, z .data-high, z .k-high)
+abbrev turn : tie.After-struct-known2 Inv-loop μ-loop → tie.Then1 Inv-loop μ-loop
+turn c = c .before
 
 sub-index : tie.Need-sub-index Inv-loop μ-loop
-sub-index c = place (turn c) .end-low
+sub-index c = place (turn c) .start-low
 
 mul-margin-at : tie.Need-mul-margin-at Inv-loop μ-loop
-mul-margin-at c = omega (arith, place (turn c) .few)
+mul-margin-at c = let g = place (turn c) in omega (arith, g .few, g .first-last)
 
 sub-margin-at : tie.Need-sub-margin-at Inv-loop μ-loop
-sub-margin-at c = omega arith
+sub-margin-at c = place (turn c) .first-last
 
 part-margin-at-start : tie.Need-part-margin-at-start Inv-loop μ-loop
-part-margin-at-start c = omega arith
+part-margin-at-start c = place (turn c) .first-last
 
 part-margin-at-end : tie.Need-part-margin-at-end Inv-loop μ-loop
 part-margin-at-end c = place (turn c) .last-in
@@ -111,7 +102,7 @@ next-requires c κs =
     next-fits (start l .pre .0 .table) (walk-placed (l .loop .inv .0) (inside t)) (place t)
 
 -- the next place
-next-place : (c : tie.After-next Inv-loop μ-loop) → (c .next .result .symbol ≡ c .before .before .before .before .before .before .before .before .before .before .loop .place .symbol + 1) × Walk (codeAt (c .before .before .before .before .before .before .before .before .before .before)) (c .next .result)
+next-place : (c : tie.After-next Inv-loop μ-loop) → (c .next .result .symbol ≡ c .before .before .before .before .before .before .before .before .loop .place .symbol + 1) × Walk (codeAt (c .before .before .before .before .before .before .before .before)) (c .next .result)
 next-place c =
     let t = turn (c .before .before .before .before .before) in
     let l = t .before .before in
@@ -146,10 +137,8 @@ write-margins-spec =
     Inv-loop
     μ-loop
     checks-each-requires
-    start-requires
+    opening-requires
     loop-holds
-    add-last
-    add-index
     sub-index
     mul-margin-at
     sub-margin-at

@@ -76,14 +76,14 @@ loop-holds c =
 shared-slice-read-threshold : tie.Need-shared-slice-read-threshold Inv-loop2 μ-loop2 Inv-loop μ-loop
 shared-slice-read-threshold c = omega arith
 
-start-requires : tie.Need-start-requires Inv-loop2 μ-loop2 Inv-loop μ-loop
-start-requires c κs = tt
+opening-requires : tie.Need-opening-requires Inv-loop2 μ-loop2 Inv-loop μ-loop
+opening-requires c κs = tt
 
 loop2-holds : tie.Need-loop2-holds Inv-loop2 μ-loop2 Inv-loop μ-loop
 unfolding visits
 loop2-holds c =
     let l = c .before .before .before in
-    let e = c .start .ensures in
+    let e = c .opening .ensures in
     (walk-first (codeAt l) (start l .pre .0 .usable .table) _ _ (l .before .checks-each .ensures) e, rw e refl, l .loop .inv .1)
 
 -- a symbol is next, where the inner loop goes on
@@ -234,7 +234,7 @@ run-counted-spec =
     checks-each-requires
     loop-holds
     shared-slice-read-threshold
-    start-requires
+    opening-requires
     loop2-holds
     visit-requires
     next-requires

@@ -13,34 +13,25 @@ use Rattle.visits.proofs.change_at.Tie as tie
 
 -- the start, seen from where the result and the difference are changed, and what the place is good for
 abbrev start : tie.After-slice-known5 → tie.Start
-start c = c .before .before .before .before .before .before .before .before .before .before .before .before .before .before
+start c = c .before .before .before .before .before .before .before .before .before .before .before .before
 
 place : (c : tie.Start) → Found (codeBy (c .args .code) (c .args .positions .now)) (c .args .syndrome .now) (c .args .place)
 place c = found (at-table _ _ (c .pre .0)) (c .pre .1)
 
-add-last : tie.Need-add-last
-add-last c = omega (arith, place (c .before .before .before .before .before) .few)
-
-add-index : tie.Need-add-index
-add-index c =
-    let b = c .before .before .before .before .before .before in
-    let z = b .pre .0 .usable .table .sizes in
-    omega (arith, b .pre .1 .inside, z .data-high, z .k-high)
-
 sub-index : tie.Need-sub-index
-sub-index c = place (c .before .before .before .before .before .before .before) .end-low
+sub-index c = place (c .before .before .before .before .before) .start-low
 
 subtract-symbol-requires : tie.Need-subtract-symbol-requires
-subtract-symbol-requires c κs = let b = c .before .before .before .before .before .before .before .before .before in ready-symbol _ _ (b .pre .0) _ _ (b .pre .1 .inside) (b .pre .2)
+subtract-symbol-requires c κs = let b = c .before .before .before .before .before .before .before in ready-symbol _ _ (b .pre .0) _ _ (b .pre .1 .inside) (b .pre .2)
 
 mul-subtract-at : tie.Need-mul-subtract-at
-mul-subtract-at c = omega (arith, place (start c) .few)
+mul-subtract-at c = let g = place (start c) in omega (arith, g .few, g .first-last)
 
 sub-subtract-at : tie.Need-sub-subtract-at
-sub-subtract-at c = omega arith
+sub-subtract-at c = place (start c) .first-last
 
 part-subtract-at-start : tie.Need-part-subtract-at-start
-part-subtract-at-start c = omega arith
+part-subtract-at-start c = place (start c) .first-last
 
 part-subtract-at-end : tie.Need-part-subtract-at-end
 part-subtract-at-end c = place (start c) .last-in
@@ -72,8 +63,6 @@ pub change-at-spec : {M : Type 1} → statement M
 change-at-spec =
     tie.close
     (tie.spec
-    add-last
-    add-index
     sub-index
     subtract-symbol-requires
     mul-subtract-at

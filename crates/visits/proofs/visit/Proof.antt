@@ -18,7 +18,7 @@ use Rattle.visits.proofs.visit.Tie as tie
 
 -- the places: the start seen from where the slices are known and from the vote, and the vote seen from the end
 abbrev begin : tie.After-slice-known5 → tie.Start
-begin c = c .before .before .before .before .before .before .before .before .before
+begin c = c .before .before .before .before .before .before .before
 
 abbrev start : tie.After-voted → tie.Start
 start c = begin (c .before .before .before .before)
@@ -46,26 +46,17 @@ symbol c = let b = start c in omega (arith, subtracted c, ready-subtract _ _ (b 
 slice-read-own : tie.Need-slice-read-own
 slice-read-own c = let b = begin c in omega (arith, b .pre .1 .inside, b .pre .0 .sized .len-difference)
 
-add-last : tie.Need-add-last
-add-last c = omega (arith, place (c .before .before .before .before .before .before) .few)
-
-add-index : tie.Need-add-index
-add-index c =
-    let b = c .before .before .before .before .before .before .before in
-    let z = b .pre .0 .usable .table .sizes in
-    omega (arith, b .pre .1 .inside, z .data-high, z .k-high)
-
 sub-index : tie.Need-sub-index
-sub-index c = place (c .before .before .before .before .before .before .before .before) .end-low
+sub-index c = place (c .before .before .before .before .before .before) .start-low
 
 mul-voted : tie.Need-mul-voted
-mul-voted c = omega (arith, place (begin c) .few)
+mul-voted c = let g = place (begin c) in omega (arith, g .few, g .first-last)
 
 sub-voted : tie.Need-sub-voted
-sub-voted c = omega arith
+sub-voted c = place (begin c) .first-last
 
 part-voted-start : tie.Need-part-voted-start
-part-voted-start c = omega arith
+part-voted-start c = place (begin c) .first-last
 
 part-voted-end : tie.Need-part-voted-end
 part-voted-end c = place (begin c) .last-in
@@ -130,8 +121,6 @@ pub visit-spec : {M : Type 1} → statement M
 visit-spec =
     tie.close
     (tie.spec
-    add-last
-    add-index
     sub-index
     slice-read-own
     mul-voted

@@ -15,7 +15,7 @@ use Rattle.zeros.proofs.subtract_checks.Tie as tie
 
 -- the run of `each` positions from `first` on
 abbrev runAt : List ℕ → ℕ → ℕ → List ℕ
-runAt positions first each = take (first + each - first) (drop first positions)
+runAt positions first each = take each (drop first positions)
 
 abbrev Inv-loop : tie.InvT-loop
 Inv-loop code positions h s₀ zeros₀ top first each index i₀ s zeros i =
@@ -26,13 +26,13 @@ abbrev μ-loop : tie.MeasureT-loop
 
 -- the start, seen from the loop, the code, the run, and what the place is good for
 abbrev start : tie.At-loop Inv-loop μ-loop → tie.Start Inv-loop μ-loop
-start c = c .before .before .before .before .before .before .before .before
+start c = c .before .before .before .before .before .before .before
 
 abbrev code : tie.Start Inv-loop μ-loop → Code
 code c = codeBy (c .args .code) (c .args .positions .now)
 
 abbrev run : tie.Start Inv-loop μ-loop → List ℕ
-run c = runAt (c .args .positions .now) (c .args .place .first) (c .args .place .each)
+run c = runAt (c .args .positions .now) (c .args .place .first) (c .args .place .last - c .args .place .first)
 
 place : (c : tie.Start Inv-loop μ-loop) → Found (code c) (c .args .s .now) (c .args .place)
 place c = found (c .pre .0) (c .pre .1)
@@ -48,26 +48,23 @@ inside c = omega (arith, place (start (c .before)) .run-length)
 highest-requires : tie.Need-highest-requires Inv-loop μ-loop
 highest-requires c κs = omega arith
 
-add-index : tie.Need-add-index Inv-loop μ-loop
-add-index c =
-    let b = c .before .before .before .before .before .before in
-    let z = b .pre .0 .table .sizes in
-    omega (arith, b .pre .1 .inside, z .data-high, z .k-high)
+sub-each : tie.Need-sub-each Inv-loop μ-loop
+sub-each c = place (c .before .before .before .before .before) .first-last
 
 sub-index : tie.Need-sub-index Inv-loop μ-loop
-sub-index c = place (c .before .before .before .before .before .before .before) .end-low
+sub-index c = place (c .before .before .before .before .before .before) .start-low
 
 loop-holds : tie.Need-loop-holds Inv-loop μ-loop
-loop-holds c = (subtract-none _ _ _ _ _ _, c .before .before .before .before .before .before .before .pre .5)
+loop-holds c = (subtract-none _ _ _ _ _ _, c .before .before .before .before .before .before .pre .5)
 
 add-check-of : tie.Need-add-check-of Inv-loop μ-loop
-add-check-of c = omega (arith, place (start (c .before)) .few)
+add-check-of c = let g = place (start (c .before)) in omega (arith, g .few, g .first-last)
 
 mul-check-of : tie.Need-mul-check-of Inv-loop μ-loop
-mul-check-of c = omega (arith, place (start (c .before)) .few)
+mul-check-of c = let g = place (start (c .before)) in omega (arith, g .few, g .first-last)
 
 shared-slice-read-check-of : tie.Need-shared-slice-read-check-of Inv-loop μ-loop
-shared-slice-read-check-of c = omega (arith, place (start (c .before .before)) .last-in)
+shared-slice-read-check-of c = let g = place (start (c .before .before)) in omega (arith, g .last-in, g .first-last)
 
 check-of-requires : tie.Need-check-of-requires Inv-loop μ-loop
 check-of-requires c κs =
@@ -82,13 +79,13 @@ sub-mod-requires : tie.Need-sub-mod-requires Inv-loop μ-loop
 sub-mod-requires c κs =
     let l = c .before .before .before .before in
     let low = subtract-below (l .loop .inv .0) (omega arith) (start l .pre .4) in
-    omega (arith, low (c .before .check-of .result), l .before .before .before .before .highest .ensures)
+    omega (arith, low (c .before .check-of .result), l .before .before .before .highest .ensures)
 
 write-check-requires : tie.Need-write-check-requires Inv-loop μ-loop
 write-check-requires c κs =
     let l = c .before .before .before .before .before .before .before in
     let b = start l in
-    (at-table-of (b .pre .0) (l .loop .s) (l .loop .inv .0 .sized), place b .each-is, omega (arith, at l .len, slice-read-sub-mod (c .before .before .before)), l .loop .inv .1)
+    (at-table-of (b .pre .0) (l .loop .s) (l .loop .inv .0 .sized), place b .each, omega (arith, at l .len, slice-read-sub-mod (c .before .before .before)), l .loop .inv .1)
 
 add-i : tie.Need-add-i Inv-loop μ-loop
 add-i c = omega arith
@@ -105,8 +102,8 @@ loop-again c =
     let w = c .before .before .before .before .write-check .ensures in
     let chk = c .before .before .before .before .before .before .before .before .before .check-of in (
       subtract-turn (l .loop .inv .0) _ _ _ (inside o)
-          (chk .ensures ∙ ap (λ (p : ℕ). (a .place .symbol + a .code .k - a .place .end + p) % a .code .k) (g .position (l .loop .i) (omega (arith, inside o, g .run-length))))
-          (c .before .before .before .before .before .before .before .sub-mod .ensures ∙ ap (λ (q : ℕ). sub q (getD (l .loop .s) (chk .result) 0) (a .h)) (l .before .before .before .before .highest .ensures)) (w .0),
+          (chk .ensures ∙ ap (λ (p : ℕ). (a .place .symbol - a .place .start + p) % a .code .k) (g .position (l .loop .i) (omega (arith, inside o, g .run-length))))
+          (c .before .before .before .before .before .before .before .sub-mod .ensures ∙ ap (λ (q : ℕ). sub q (getD (l .loop .s) (chk .result) 0) (a .h)) (l .before .before .before .highest .ensures)) (w .0),
       w .1 ∙ ap (zeroCounts _) (sym (w .0)),
     )
 
@@ -132,7 +129,7 @@ subtract-checks-spec =
     Inv-loop
     μ-loop
     highest-requires
-    add-index
+    sub-each
     sub-index
     loop-holds
     add-check-of

@@ -11,16 +11,19 @@ add-symbol c = search needs
 add-t5 : tie.Need-add-t5
 add-t5 c = search needs
 
-add-t6 : tie.Need-add-t6
-add-t6 c = search needs
+sub-t6 : tie.Need-sub-t6
+sub-t6 c = search needs
+
+add-t7 : tie.Need-add-t7
+add-t7 c = search needs
 
 returns : tie.Need-returns
 unfolding nextPlace
-returns c = simp (eq-eqb _ _ (c .before .before .if1 .taken))
+returns c = simp (eq-eqb _ _ (c .before .before .before .if1 .taken))
 
 returns-2 : tie.Need-returns-2
 unfolding nextPlace
 returns-2 c = simp (ne-eqb _ _ (c .if1 .left))
 
 pub next-spec : {M : Type 1} → statement M
-next-spec = tie.close (tie.spec add-symbol add-t5 add-t6 returns returns-2)
+next-spec = tie.close (tie.spec add-symbol add-t5 sub-t6 add-t7 returns returns-2)
