@@ -21,14 +21,14 @@ fn next_smaller(thresholds: &[u8], from: usize, threshold: u8) -> usize
         × (drop r (now (thresholds .entry)) ≡ firstSmaller threshold (drop from (now (thresholds .entry)))) ⌝ }
 {
     let n = thresholds.len();
-    let mut p = from;
-    while p < n {
-        if thresholds[p] < threshold {
-            return p;
+    let mut at = from;
+    while at < n {
+        if thresholds[at] < threshold {
+            return at;
         }
-        p += 1;
+        at += 1;
     }
-    p
+    at
 }
 
 // The passes that are run where every one is idle: one for each threshold that is smaller than all before it.
@@ -37,14 +37,14 @@ pub fn idle_passes(thresholds: &[u8]) -> u32
     ensures { λ r. ⌜ r ≡ length (minima none (now (thresholds .entry))) ⌝ }
 {
     let n = thresholds.len();
-    let mut count: u32 = 0;
+    let mut idle: u32 = 0;
     let mut p: usize = 0;
     while p < n {
-        let threshold = thresholds[p];
-        p = next_smaller(thresholds, p + 1, threshold);
-        count += 1;
+        let least = thresholds[p];
+        p = next_smaller(thresholds, p + 1, least);
+        idle += 1;
     }
-    count
+    idle
 }
 
 // Passes with the thresholds in order. An idle pass is followed by the first later one whose threshold is smaller; if there is none, they end.

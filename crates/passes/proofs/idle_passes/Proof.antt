@@ -11,17 +11,17 @@ use Rattle.passes.proofs.idle_passes.Statement.{statement}
 use Rattle.passes.proofs.idle_passes.Tie as tie
 
 abbrev Inv-loop : tie.InvT-loop
-Inv-loop thresholds n count₀ p₀ count p =
-    (count ≤ p) × (p ≤ n) × (count + length (minima none (drop p thresholds)) ≡ length (minima none thresholds))
+Inv-loop thresholds n idle₀ p₀ idle p =
+    (idle ≤ p) × (p ≤ n) × (idle + length (minima none (drop p thresholds)) ≡ length (minima none thresholds))
 
 abbrev μ-loop : tie.MeasureT-loop
-μ-loop thresholds n count₀ p₀ count p = n - p
+μ-loop thresholds n idle₀ p₀ idle p = n - p
 
 loop-holds : tie.Need-loop-holds Inv-loop μ-loop
 loop-holds c = (omega arith, omega arith, omega arith)
 
-shared-slice-read-threshold : tie.Need-shared-slice-read-threshold Inv-loop μ-loop
-shared-slice-read-threshold c = omega arith
+shared-slice-read-least : tie.Need-shared-slice-read-least Inv-loop μ-loop
+shared-slice-read-least c = omega arith
 
 add-next-smaller : tie.Need-add-next-smaller Inv-loop μ-loop
 add-next-smaller c = omega arith
@@ -29,8 +29,8 @@ add-next-smaller c = omega arith
 next-smaller-requires : tie.Need-next-smaller-requires Inv-loop μ-loop
 next-smaller-requires c κs = omega arith
 
-add-count : tie.Need-add-count Inv-loop μ-loop
-add-count c = omega arith
+add-idle : tie.Need-add-idle Inv-loop μ-loop
+add-idle c = omega arith
 
 loop-less : tie.Need-loop-less Inv-loop μ-loop
 loop-less c = omega (arith, c .next-smaller .ensures .0)
@@ -49,4 +49,4 @@ returns c = omega (arith, minima-end (c .before .before .before .args .threshold
 
 pub idle-passes-spec : {M : Type 1} → statement M
 idle-passes-spec =
-    tie.close (tie.spec Inv-loop μ-loop loop-holds shared-slice-read-threshold add-next-smaller next-smaller-requires add-count loop-less loop-again returns)
+    tie.close (tie.spec Inv-loop μ-loop loop-holds shared-slice-read-least add-next-smaller next-smaller-requires add-idle loop-less loop-again returns)

@@ -171,7 +171,7 @@ loop-again c =
       l .loop2 .inv .2,
       pass-kept x,
       ap (λ (ts : List ℕ). passesFrom (codeAt (outer l)) (o .count + 1) ts (within l)) (e .2)
-          ∙ sym (pass-idle (codeAt (outer l)) (o .count) (o .p) (l .loop2 .place .symbol) ths (between (outer l)) (within l) (omega arith) (all-visited x) (l .loop2 .inv .1) (c .before .before .if3 .taken))
+          ∙ sym (pass-idle (codeAt (outer l)) (o .count) (o .p) (l .loop2 .place .symbol) ths (between (outer l)) (within l) (omega arith) (all-visited x) (l .loop2 .inv .1) (omega (arith, c .before .before .if3 .taken)))
           ∙ o .inv .4,
     )
 
@@ -230,9 +230,10 @@ done c =
     (let i = w .3 in
     let x = progress (i .result) (i .syndrome) (i .difference) (i .tally) in
     let h : i .place .symbol ≡ dataCount (codeAt b) = walk-over (i .inv .0) (omega (arith, b .before .before .data-count .ensures, w .5 .left)) in
+    let over : length ths ≤ w .8 .result = omega (arith, w .9 .taken) in
     left (omega arith) (p .0) (kept-by _ _ _ _ _ (o .inv .3 .ready) (i .inv .1) .ready) (p .3) (i .inv .2)
-    (ap (λ (l : List ℕ). passesFrom (codeAt b) (o .count + 1) l x) (sym (drop-of-length-le ths (w .9 .taken)) ∙ w .8 .ensures .2)
-    ∙ sym (pass-idle (codeAt b) (o .count) (o .p) (i .place .symbol) ths (between b) x (omega arith) h (i .inv .1) (w .7 .taken)) ∙ o .inv .4)))
+    (ap (λ (l : List ℕ). passesFrom (codeAt b) (o .count + 1) l x) (sym (drop-of-length-le ths over) ∙ w .8 .ensures .2)
+    ∙ sym (pass-idle (codeAt b) (o .count) (o .p) (i .place .symbol) ths (between b) x (omega arith) h (i .inv .1) (omega (arith, w .7 .taken))) ∙ o .inv .4)))
     (c .if1 .came)
 
 cast-passed : tie.Need-cast-passed Inv-loop2 μ-loop2 Inv-loop μ-loop
