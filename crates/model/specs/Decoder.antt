@@ -80,6 +80,7 @@ pub data Limit : Type 0 where
   none : Limit
   under : (t : ℕ) → Limit
 
+-- whether it lets a pass with threshold t run
 unfoldable pub allows : Limit → ℕ → Bool
 allows none t = true
 allows (under n) t = ltb t n
