@@ -1,21 +1,21 @@
 -- Decoding a whole page: the run of passes from the opened page, and a page at distance 0.
-use mathlib.Core.Path.{_≡_, refl, ap, sym, _∙_}
-use mathlib.Core.List.{List, [], _∷_, append-nil}
-use Prim.Native.Nat.{ℕ, _+_, _≤_, _<_}
+use mathlib.Core.Path.{_≡_, ap, sym, _∙_}
+use mathlib.Core.List.{List}
+use Prim.Native.Nat.{ℕ, _+_, _≤_}
 use native.Mathlib.Omega.{arith}
 use lib.ListN.{length}
 use Rattle.model.specs.Code.{Code, dataCount, checksOf}
-use Rattle.model.specs.Decoder.{State, Visit, after, changeCount, pass, passes, thresholdsRun, dataSymbols, opened, passesOf, run, distanceTo, Counts, decodedState, decodedCounts}
+use Rattle.model.specs.Decoder.{State, changeCount, passes, none, thresholdsRun, dataSymbols, opened, passesOf, run, distanceTo, Counts, decodedState, decodedCounts}
 use Rattle.model.specs.Symbols.{weight}
 use Rattle.theory.specs.Answers.{Opens}
 use Rattle.theory.specs.Codes.{code-incidence}
-use Rattle.theory.specs.Counting.{eqb-yes, zeros-weight}
-use Rattle.theory.specs.Decoding.{code-opened-sized, code-distance}
-use Rattle.theory.specs.Falling.{after-sized, idle-after}
-use Rattle.theory.specs.Runs.{range-pass, range-passes, symbols-range}
+use Rattle.theory.specs.Counting.{zeros-weight}
+use Rattle.theory.specs.Decoding.{code-opened-sized, code-distance, code-idle, code-minima}
+use Rattle.theory.specs.Falling.{InRange, after-sized}
+use Rattle.theory.specs.Runs.{range-passes, symbols-range}
+use Rattle.theory.specs.Schedule.{minima}
 use Rattle.theory.specs.Steps.{stateWeight}
-use Rattle.opening.specs.Opened.{opened-weight}
-use Rattle.passes.specs.Runs.{ran, runOf}
+use Rattle.passes.specs.Runs.{ran, passesFrom, runOf}
 use Rattle.visits.specs.Progress.{Progress, Ready}
 use Rattle.tally.specs.declared.Tally.{Tally}
 
@@ -33,19 +33,6 @@ startAt c page n = record { state = opened c page; tally = record { passes = 0; 
 
 -- ---- single facts
 
-idle-thresholds : (q : ℕ) (checks : ℕ → List ℕ) (js : List ℕ) (t : ℕ) (ts : List ℕ) (st : State) → changeCount q checks (pass js t) st ≡ 0
-    → thresholdsRun q checks js (t ∷ ts) st ≡ t ∷ []
-unfolding thresholdsRun
-idle-thresholds q checks js t ts st e = rw (eqb-yes (changeCount q checks (pass js t) st) 0 e) refl
-
-run-one : (c : Code) (ts page : List ℕ) (t : ℕ) → passesOf c ts page ≡ t ∷ [] → run c ts page ≡ pass (dataSymbols c) t
-unfolding run passes
-run-one c ts page t e = rw e (append-nil (pass (dataSymbols c) t))
-
-decoded-by : (c : Code) (ts page : List ℕ) (vs : List Visit) → run c ts page ≡ vs → decodedState c ts page ≡ after (c .q) (checksOf c) vs (opened c page)
-unfolding decodedState
-decoded-by c ts page vs e = ap (λ (ws : List Visit). after (c .q) (checksOf c) ws (opened c page)) e
-
 -- a weight is at most the length, so that the sum of two fits
 pub weights-small : (xs ys : List ℕ) → length xs ≤ 4096 → length ys ≤ 4096 → weight xs + weight ys ≤ 8192
 weights-small xs ys a b = omega (arith, zeros-weight xs, zeros-weight ys)
@@ -56,33 +43,28 @@ module _ (c : Code) (page : List ℕ) (lent : State) (o : Opens c page lent) whe
   pub opened-ready : Ready c (opened c page)
   opened-ready = record { usable = o .usable; bytes = o .bytes; sized = code-opened-sized c (o .usable) page (o .whole) }
 
+  range : (ts : List ℕ) → InRange (dataCount c) (run c ts page)
+  unfolding run
+  range ts = range-passes (dataCount c) (dataSymbols c) (symbols-range c) (passesOf c ts page)
+
   -- after the run the distance is the weight of D and S
   pub decoded-distance : (ts : List ℕ) → stateWeight (decodedState c ts page) ≡ distanceTo c page (decodedState c ts page)
-  unfolding decodedState run
-  decoded-distance ts =
-      sym (code-distance c (o .usable) page (o .whole) (run c ts page) (range-passes (dataCount c) (dataSymbols c) (symbols-range c) (passesOf c ts page)))
+  unfolding decodedState
+  decoded-distance ts = sym (code-distance c (o .usable) page (o .whole) (run c ts page) (range ts))
 
-  -- a page at distance 0: its one pass is idle
-  pub clean-decoded : distanceTo c page (opened c page) ≡ 0 → (ts : List ℕ) → 0 < length ts
-      → _≡_ {A = Progress} (record { state = opened c page; tally = record { passes = 1; changes = 0; start = 0; end = 0 } }) (decoded c ts page)
-  unfolding passesOf decodedCounts
-  clean-decoded z [] h = absurd (omega arith)
-  clean-decoded z (t ∷ ts) h =
-      let q : ℕ = c .q in
-      let js : List ℕ = dataSymbols c in
-      let st : State = opened c page in
-      let i = idle-after (code-incidence c (o .usable)) (pass js t) (range-pass (dataCount c) js t (symbols-range c)) st (opened-ready .sized)
-      (sym (opened-weight c page lent o) ∙ z) in
-      let one : passesOf c (t ∷ ts) page ≡ t ∷ [] = idle-thresholds q (checksOf c) js t ts st (i .1) in
-      let visits : run c (t ∷ ts) page ≡ pass js t = run-one c (t ∷ ts) page t one in
-      let left : decodedState c (t ∷ ts) page ≡ st = decoded-by c (t ∷ ts) page (pass js t) visits ∙ i .0 in
-      λ o. record {
-        state = sym left o;
+  -- a page at distance 0: every pass is idle
+  pub clean-decoded : distanceTo c page (opened c page) ≡ 0 → (ts : List ℕ) (n : ℕ) → n ≡ length (minima none ts)
+      → _≡_ {A = Progress} (record { state = opened c page; tally = record { passes = n; changes = 0; start = 0; end = 0 } }) (decoded c ts page)
+  unfolding decodedState decodedCounts
+  clean-decoded z ts n e =
+      let i = code-idle c (o .usable) page (o .whole) z (run c ts page) (range ts) in
+      λ x. record {
+        state = sym (i .0) x;
         tally = record {
-          passes = sym (ap length one) o;
-          changes = sym (ap (λ (vs : List Visit). changeCount q (checksOf c) vs st) visits ∙ i .1) o;
-          start = sym z o;
-          end = sym (ap (distanceTo c page) left ∙ z) o;
+          passes = (e ∙ ap length (sym (code-minima c (o .usable) page (o .whole) z ts))) x;
+          changes = sym (i .1) x;
+          start = sym z x;
+          end = sym (ap (distanceTo c page) (i .0) ∙ z) x;
         };
       }
 
@@ -90,24 +72,24 @@ module _ (c : Code) (page : List ℕ) (lent : State) (o : Opens c page lent) whe
 
   module _ (ts : List ℕ) (n : ℕ) (x : Progress) (f : x ≡ runOf c ts (startAt c page n)) where
     run-state : x .state ≡ decodedState c ts page
-    unfolding runOf ran decodedState run passesOf
+    unfolding runOf passesFrom ran decodedState run passesOf
     run-state = ap (λ (y : Progress). y .state) f
 
     run-passes : x .tally .passes ≡ length (passesOf c ts page)
-    unfolding runOf ran passesOf
+    unfolding runOf passesFrom ran passesOf
     run-passes = ap (λ (y : Progress). y .tally .passes) f ∙ (let z : 0 + length (passesOf c ts page) ≡ length (passesOf c ts page) = omega arith in z)
 
     run-changes : x .tally .changes ≡ changeCount (c .q) (checksOf c) (run c ts page) (opened c page)
-    unfolding runOf ran run passesOf
+    unfolding runOf passesFrom ran run passesOf
     run-changes =
         ap (λ (y : Progress). y .tally .changes) f
         ∙ (let z : 0 + changeCount (c .q) (checksOf c) (run c ts page) (opened c page) ≡ changeCount (c .q) (checksOf c) (run c ts page) (opened c page) = omega arith in z)
 
     -- what it leaves has the lengths that it found
     pub run-lengths : (length (x .state .difference) ≤ 4096) × (length (x .state .syndrome) ≤ 4096)
-    unfolding runOf ran
+    unfolding runOf passesFrom ran
     run-lengths =
-        let z = after-sized (code-incidence c (o .usable)) (passes (dataSymbols c) (thresholdsRun (c .q) (checksOf c) (dataSymbols c) ts (opened c page)))
+        let z = after-sized (code-incidence c (o .usable)) (passes (dataSymbols c) (thresholdsRun (c .q) (checksOf c) (dataSymbols c) none ts (opened c page)))
         (opened c page) (opened-ready .sized) in
         let l = o .usable .table .sizes in
         rw f (omega (arith, z .len-difference, l .data-high), omega (arith, z .len-syndrome, l .k-high))
@@ -116,7 +98,7 @@ module _ (c : Code) (page : List ℕ) (lent : State) (o : Opens c page lent) whe
     pub run-decoded : (e : ℕ) → n ≡ distanceTo c page (opened c page) → e ≡ weight (x .state .difference) + weight (x .state .syndrome)
         → _≡_ {A = Progress} (record { state = x .state; tally = record { passes = x .tally .passes; changes = x .tally .changes; start = x .tally .start; end = e } })
         (decoded c ts page)
-    unfolding runOf ran decodedCounts stateWeight
+    unfolding runOf passesFrom ran decodedCounts stateWeight
     run-decoded e g w = λ i. record {
       state = run-state i;
       tally = record {

@@ -22,7 +22,7 @@ fn state_weight(d: &[u8], s: &[u8]) -> u32
     slices::weight_of(d) + slices::weight_of(s)
 }
 
-// Decodes a page that was tested. A page at distance 0 needs no visit to know that its one pass is idle.
+// Decodes a page that was tested. A page at distance 0 needs no visit to know that its passes are idle.
 // zeros has one byte a data symbol; afterwards, where the distance at the end is not 0, the zeros at the checks of each.
 pub fn decode_page(
     code: Params,
@@ -42,7 +42,8 @@ pub fn decode_page(
 {
     let start = opening::open_page(code, positions, page, result, s, d);
     if start == 0 {
-        return Tally::opened(0).passed(1);
+        let idle = passes::idle_passes(thresholds);
+        return Tally::opened(0).passed(idle);
     }
     let opened = Tally::opened(start);
     let ran = passes::run(code, positions, thresholds, result, s, d, zeros, opened);

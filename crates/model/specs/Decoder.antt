@@ -1,6 +1,6 @@
 -- The decoder's steps: visit, pass, run, and what decoding a page gives.
 -- A step depends on the code by q and by the checks of each data symbol alone, which are its first parameters.
-use mathlib.Core.Bool.{Bool, not, _&&_}
+use mathlib.Core.Bool.{Bool, true, not, _&&_}
 use mathlib.Core.List.{List, [], _∷_, _++_, map}
 use Prim.Native.Nat.{ℕ, _+_, _-_}
 use lib.Dec.{eqb, ltb}
@@ -69,13 +69,39 @@ unfoldable pub passes : List ℕ → List ℕ → List Visit
 passes js [] = []
 passes js (t ∷ ts) = pass js t ++ passes js ts
 
--- "Passes take the thresholds in order. Decoding stops after the first pass that changes nothing, or when the thresholds are used up.":
--- the thresholds of the passes that are run, the last, idle one included
-unfoldable pub thresholdsRun : ℕ → (ℕ → List ℕ) → List ℕ → List ℕ → State → List ℕ
-thresholdsRun q checks js [] st = []
-thresholdsRun q checks js (t ∷ ts) st =
-    let later = thresholdsRun q checks js ts (after q checks (pass js t) st) in
-    t ∷ choose (eqb (changeCount q checks (pass js t) st) 0) [] later
+-- ---- the passes that are run, of a list of thresholds
+
+-- whether a pass "changes nothing"
+abbrev pub isIdle : ℕ → (ℕ → List ℕ) → List ℕ → ℕ → State → Bool
+isIdle q checks js t st = eqb (changeCount q checks (pass js t) st) 0
+
+-- what the threshold of a pass must be below
+pub data Limit : Type 0 where
+  none : Limit
+  under : (t : ℕ) → Limit
+
+-- whether it lets a pass with threshold t run
+unfoldable pub allows : Limit → ℕ → Bool
+allows none t = true
+allows (under n) t = ltb t n
+
+-- "Passes take the thresholds in order", and "an idle pass is followed by the first later one in the list whose threshold is smaller; if there is
+-- none, decoding stops. Skipped passes aren't counted." (N4): the thresholds of the passes that are run, idle ones included.
+-- A threshold that the limit does not allow is skipped. An idle pass limits what follows to smaller thresholds, any other pass sets no limit
+unfoldable pub thresholdsRun : ℕ → (ℕ → List ℕ) → List ℕ → Limit → List ℕ → State → List ℕ
+thresholdsRun q checks js limit [] st = []
+thresholdsRun q checks js limit (t ∷ ts) st =
+    let next = choose (isIdle q checks js t st) (under t) none in
+    let later = thresholdsRun q checks js next ts (after q checks (pass js t) st) in
+    let skipped = thresholdsRun q checks js limit ts st in
+    choose (allows limit t) (t ∷ later) skipped
+
+-- "the first later one in the list whose threshold is smaller": the list from the first threshold below t on (N4)
+unfoldable pub firstSmaller : ℕ → List ℕ → List ℕ
+firstSmaller t [] = []
+firstSmaller t (u ∷ us) = choose (ltb u t) (u ∷ us) (firstSmaller t us)
+
+-- ---- decoding a page
 
 -- "data symbols 0, 1, .. in that order", and so "the branches in turn" (N2)
 abbrev pub dataSymbols : Code → List ℕ
@@ -87,7 +113,7 @@ opened c page = record { result = dataOf c page; syndrome = syndrome c page; dif
 
 -- the thresholds of the passes that decoding a page runs
 unfoldable pub passesOf : Code → List ℕ → List ℕ → List ℕ
-passesOf c thresholds page = thresholdsRun (c .q) (checksOf c) (dataSymbols c) thresholds (opened c page)
+passesOf c thresholds page = thresholdsRun (c .q) (checksOf c) (dataSymbols c) none thresholds (opened c page)
 
 -- "The run of a decode .. is the list of all its visits, those that alter nothing included"
 unfoldable pub run : Code → List ℕ → List ℕ → List Visit

@@ -2,8 +2,7 @@
 use mathlib.Core.Path.{_≡_}
 use mathlib.Core.Bool.{true, false}
 use mathlib.Core.List.{List, [], _∷_}
-use Prim.Native.Nat.{ℕ, suc, _+_, _<_, _≤_}
-use lib.ListN.{getD}
+use Prim.Native.Nat.{ℕ, suc, _+_, _<_, _≤_, min}
 use Rattle.model.specs.Symbols.{choose, distance}
 use Rattle.model.specs.Code.{Code, pageLength, checksEach, checksOf, codeWord, dataOf}
 use Rattle.model.specs.Decoder.{State, Visit, Counts, changes, visit, after, opened, run, distanceTo}
@@ -44,7 +43,7 @@ pub record DecodeFalls (c : Code) (thresholds page : List ℕ) (counts : Counts)
 abbrev pub Encodes : Code → List ℕ → List ℕ → Type 0
 Encodes c u sent = (encodeAnswer c u (pageLength c) ≡ 0) × (sent ≡ codeWord c u)
 
--- t replaced symbols and a threshold; demand 3: 2t plus the first pass's threshold is at most J
+-- t replaced symbols and a threshold: 2t plus the threshold is at most J
 abbrev pub WithinBound : Code → ℕ → ℕ → Type 0
 WithinBound c t threshold = t + t + threshold ≤ checksEach c
 
@@ -54,6 +53,12 @@ abbrev pub Recovers : Code → ℕ → List ℕ → List ℕ → Type 0
 Recovers c threshold page result =
     (u sent : List ℕ) (t : ℕ) → Encodes c u sent → distance sent page ≤ t → WithinBound c t threshold → result ≡ dataOf c sent
 
--- of a decode; demand 3: by the first pass's threshold
+-- the smallest of a list that is not empty
+unfoldable pub smallest : List ℕ → ℕ
+smallest [] = 0
+smallest (t ∷ []) = t
+smallest (t ∷ u ∷ us) = min t (smallest (u ∷ us))
+
+-- of a decode: "The recovery bound now uses the smallest threshold in the list instead of the first." (N4)
 abbrev pub DecodeRecovers : Code → List ℕ → List ℕ → List ℕ → Type 0
-DecodeRecovers c thresholds page result = Recovers c (getD thresholds 0 0) page result
+DecodeRecovers c thresholds page result = Recovers c (smallest thresholds) page result

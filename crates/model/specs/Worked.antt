@@ -1,5 +1,5 @@
 -- The proved set: the worked pages of document 01 that are marked ●, as one table, and one statement that the definitions give what its rows say.
--- Below it a second table pins misreadings that no marked page tells apart, and three lines hold demand 3 to its numbers.
+-- Below it a second table pins misreadings that no marked page tells apart, and four lines hold demand 3 to its numbers.
 use mathlib.Core.Path.{_≡_, refl, ap, subst, _∙_}
 use mathlib.Core.Bool.{Bool, true, false}
 use mathlib.Core.List.{List, [], _∷_, _++_, map}
@@ -11,9 +11,9 @@ use lib.IntN.{ℤ, pos, negsuc}
 use Rattle.model.specs.Symbols.{sub, same, differ, count, distance, sumOver, sumBelow, joinBelow, tabulate, symbolsAt, subtractAt}
 use Rattle.model.specs.Code.{Code, codeOf, dataCount, checkCount, pageLength, branchAt, checksBy, checksOf, checkSumBy, checkSymbol, checkSymbols, codeWord, syndrome, shared, everyBelow, selfOrthogonal, differencesFrom, differencesBy, differences, allDifferent}
 use Rattle.model.specs.Vote.{firstOf, leader, leadCount, otherCount, nextCount, Votes, votes, margin}
-use Rattle.model.specs.Decoder.{stateBy, State, Counts, estimates, isChange, change, changes, visit, after, changeCount, pass, passes, thresholdsRun, opened, passesOf, run, distanceTo, decodedState, decodedCounts, marginsOf}
+use Rattle.model.specs.Decoder.{stateBy, State, Counts, estimates, isChange, change, changes, visit, after, changeCount, pass, passes, allows, thresholdsRun, opened, passesOf, run, distanceTo, decodedState, decodedCounts, marginsOf}
 use Rattle.model.specs.Calls.{firstThatApplies, within, positionsFit, allBelow, sizeTests, tableTests, pageTests, thresholdTests, tableAnswer, encodeAnswer, decodeAnswer, Outcome, outcome, encodeOutcome, Decoded, decodeOutcome}
-use Rattle.model.specs.Demand.{VisitFalls, WithinBound}
+use Rattle.model.specs.Demand.{VisitFalls, WithinBound, smallest, DecodeRecovers}
 
 -- A row: a call's inputs, and what it must give.
 data Row : Type 0 where
@@ -45,7 +45,7 @@ lentState c = stateBy (lent (dataCount c)) (lent (checkCount c)) (lent (dataCoun
 computed : Row → Row
 unfolding firstThatApplies within positionsFit allBelow sizeTests tableTests pageTests thresholdTests tableAnswer encodeAnswer decodeAnswer outcome encodeOutcome decodeOutcome
     branchAt checksBy checksOf checkSumBy checkSymbol checkSymbols codeWord syndrome shared everyBelow selfOrthogonal differencesFrom differencesBy allDifferent
-    firstOf leader leadCount otherCount nextCount estimates isChange change changes visit after changeCount pass passes thresholdsRun opened passesOf run distanceTo decodedState decodedCounts margin marginsOf
+    firstOf leader leadCount otherCount nextCount estimates isChange change changes visit after changeCount pass passes allows thresholdsRun opened passesOf run distanceTo decodedState decodedCounts margin marginsOf
     sub same differ count distance sumOver sumBelow joinBelow tabulate symbolsAt subtractAt times
 computed (table c a d) = table c (tableAnswer c) (allDifferent (differences c))
 computed (encoded c u g) = encoded c u (encodeOutcome c u (lent (pageLength c)))
@@ -98,8 +98,9 @@ rows =
     (accepted (10 ∷ zeros 11 ++ (250 ∷ 4 ∷ 10 ∷ 0 ∷ 250 ∷ 10 ∷ 250 ∷ 10 ∷ zeros 5 ++ (250 ∷ []))))
     -- 6
     ∷ decoded codeA (2 ∷ 2 ∷ []) (7 ∷ zeros 25) (found (zeros 13) (zeros 13) (249 ∷ zeros 12) (map pos (3 ∷ times 12 5)) 2 1 4 1)
-    -- 7
-    ∷ decoded codeA (3 ∷ 2 ∷ []) (7 ∷ zeros 25) (found (7 ∷ zeros 12) (7 ∷ 7 ∷ 0 ∷ 0 ∷ 7 ∷ 0 ∷ 7 ∷ zeros 6) (zeros 13) (negsuc 2 ∷ map pos (times 12 3)) 1 0 4 4)
+    -- 7, as N4 changes it: at 3 the lead 4 − 1 = 3 isn't above 3, so the pass is idle; a second 3 is skipped, and 2 is next
+    ∷ decoded codeA (3 ∷ 2 ∷ []) (7 ∷ zeros 25) (found (zeros 13) (zeros 13) (249 ∷ zeros 12) (map pos (3 ∷ times 12 5)) 2 1 4 1)
+    ∷ decoded codeA (3 ∷ 3 ∷ 2 ∷ []) (7 ∷ zeros 25) (found (zeros 13) (zeros 13) (249 ∷ zeros 12) (map pos (3 ∷ times 12 5)) 2 1 4 1)
     -- 8
     ∷ decoded codeA (0 ∷ []) (zeros 15 ++ (9 ∷ zeros 10)) (found (zeros 13) (0 ∷ 0 ∷ 247 ∷ zeros 10) (zeros 13)
     (map pos (5 ∷ 3 ∷ 3 ∷ 5 ∷ 5 ∷ 5 ∷ 5 ∷ 5 ∷ 5 ∷ 3 ∷ 5 ∷ 3 ∷ 5 ∷ [])) 1 0 1 1)
@@ -156,6 +157,15 @@ misreadings =
     ∷ table (codeOf 256 2049 2 (0 ∷ [])) 10 true
     ∷ table (codeOf 256 13 2 (0 ∷ 1 ∷ 2 ∷ [])) 3 true
     ∷ table (codeOf 256 13 2 (0 ∷ 1 ∷ 2 ∷ 2 ∷ [])) 4 true
+    -- N4, on a page at distance 0, where every pass is idle: of 3, 3, 2, 0, 0 the first 3, the 2 and the first 0 are run, three passes.
+    -- With "smaller or equal", with the next pass in place of the first smaller one, or with skipped passes counted there would be five
+    ∷ decoded codeA (3 ∷ 3 ∷ 2 ∷ 0 ∷ 0 ∷ []) (zeros 26) (found (zeros 13) (zeros 13) (zeros 13) (map pos (times 13 5)) 3 0 0 0)
+    -- of 2, 3, 2, 1 the first 2 and the 1 are run, two passes: the second 2 is smaller than the 3 before it, but not than the idle pass's own.
+    -- With "smaller or equal" there would be three, with the next pass or with skipped passes counted four
+    ∷ decoded codeA (2 ∷ 3 ∷ 2 ∷ 1 ∷ []) (zeros 26) (found (zeros 13) (zeros 13) (zeros 13) (map pos (times 13 5)) 2 0 0 0)
+    -- a pass that changes something is followed by the next, whatever its threshold: on the page of case 6 the first 3 is idle, 2 changes
+    -- symbol 0, and 3 is run again
+    ∷ decoded codeA (3 ∷ 2 ∷ 3 ∷ []) (7 ∷ zeros 25) (found (zeros 13) (zeros 13) (249 ∷ zeros 12) (map pos (3 ∷ times 12 5)) 3 1 4 1)
     ∷ []
 
 told-apart : map computed misreadings ≡ misreadings
@@ -171,13 +181,20 @@ pageSix = 7 ∷ zeros 25
 falls-by-three : VisitFalls 256 (checksOf codeA) (distanceTo codeA pageSix) (record { symbol = 0; threshold = 2 }) (opened codeA pageSix)
 unfolding codeA pageSix times branchAt checksBy checksOf checkSumBy checkSymbol checkSymbols codeWord syndrome firstOf leader leadCount otherCount nextCount
     estimates isChange change changes visit opened distanceTo sub same differ count distance sumOver sumBelow tabulate symbolsAt subtractAt
-falls-by-three = record { lowered = (λ e. let f : 1 + 2 < 4 = omega arith in f); left = (λ e. absurd (subst T e tt)) }
+falls-by-three = record { lowered = (λ e. omega arith); left = (λ e. absurd (subst T e tt)) }
 
 -- code A has J = 4: two replaced symbols are within the bound at threshold 0, and not at threshold 1
 bound-met : WithinBound codeA 2 0
 unfolding codeA
-bound-met = let e : 4 ≤ 4 = omega arith in e
+bound-met = omega arith
 
 bound-passed : WithinBound codeA 2 1 → ⊥
 unfolding codeA
-bound-passed w = let e : 5 ≤ 4 = w in omega arith
+bound-passed w = omega (arith, w)
+
+-- by the smallest of the thresholds 3, 2 the page of case 6, a page of zeros with one symbol replaced, is within the bound, and so recovered;
+-- by the first it would not be
+bound-by-smallest : (result : List ℕ) → DecodeRecovers codeA (3 ∷ 2 ∷ []) pageSix result → result ≡ zeros 13
+unfolding smallest codeA pageSix times firstThatApplies within positionsFit allBelow sizeTests tableTests pageTests encodeAnswer branchAt checksBy checksOf checkSumBy checkSymbol checkSymbols codeWord
+    shared everyBelow selfOrthogonal sub same differ count distance sumOver sumBelow tabulate
+bound-by-smallest result recovers = recovers (zeros 13) (zeros 26) 1 (refl, refl) (omega arith) (omega arith)

@@ -1,24 +1,24 @@
--- The run of passes on a decode under way: as the loops go, and that it is model's.
+-- The run of passes on a decode under way, and one pass of it as the loops go.
 use mathlib.Core.Path.{_≡_, refl, ap, sym, _∙_}
+use mathlib.Core.Logic.{_≢_}
 use mathlib.Core.Bool.{Bool, true, false}
 use mathlib.Core.List.{List, [], _∷_, _++_}
 use Prim.Native.Nat.{ℕ, zero, suc, _+_, _≤_, _<_}
-use native.Mathlib.Decide.{ℕ-discrete}
 use native.Mathlib.Omega.{arith}
 use native.Mathlib.Numerals.{add-one}
 use lib.Dec.{eqb}
 use lib.ListN.{length, getD, drop}
-use lib.Seq.{drop-cons}
-use borrow.Author.Tests.{eq-eqb, ne-eqb}
 use Rattle.model.specs.Code.{Code, dataCount, checksOf}
-use Rattle.model.specs.Decoder.{State, Visit, changes, after, changeCount, pass, passes, thresholdsRun, dataSymbols}
+use Rattle.model.specs.Decoder.{State, Visit, changes, after, changeCount, pass, passes, isIdle, none, thresholdsRun, firstSmaller, dataSymbols}
 use Rattle.model.specs.Symbols.{choose, bit, tabulate}
 use Rattle.theory.specs.Codes.{code-incidence}
 use Rattle.theory.specs.Counting.{eqb-yes, eqb-no}
 use Rattle.theory.specs.Falling.{visit-sized}
 use Rattle.theory.specs.Runs.{after-append, changes-append}
+use Rattle.theory.specs.Schedule.{followed}
 use Rattle.theory.specs.Turns.{pass-turn, pass-count-turn}
 use Rattle.visits.specs.Progress.{Progress, counted, both, with-changes, visitOf, Ready}
+use Rattle.passes.specs.Thresholds.{drop-more}
 use Rattle.tally.specs.declared.Tally.{Tally}
 
 -- the tally with a number of passes
@@ -32,51 +32,24 @@ ran c n ts p = record {
   tally = withPasses (n + length ts) (counted (changeCount (c .q) (checksOf c) (passes (dataSymbols c) ts) (p .state)) (p .tally));
 }
 
--- the passes that decoding runs, of a list of thresholds
-unfoldable pub runOf : Code → List ℕ → Progress → Progress
-runOf c ths p = ran c 0 (thresholdsRun (c .q) (checksOf c) (dataSymbols c) ths (p .state)) p
+-- the passes that decoding runs of a list of thresholds, where n passes were run before
+unfoldable pub passesFrom : Code → ℕ → List ℕ → Progress → Progress
+passesFrom c n ths p = ran c n (thresholdsRun (c .q) (checksOf c) (dataSymbols c) none ths (p .state)) p
 
--- ---- as the loops go
+-- all of them
+unfoldable pub runOf : Code → List ℕ → Progress → Progress
+runOf c ths p = passesFrom c 0 ths p
+
+-- ---- a pass, visit by visit
 
 -- the first n visits of a pass
 unfoldable pub visits : Code → ℕ → ℕ → Progress → Progress
 visits c t zero p = p
 visits c t (suc n) p = visitOf c (record { symbol = n; threshold = t }) (visits c t n p)
 
--- the passes that are left where n of them are done
-unfoldable pub passesFrom : Code → ℕ → List ℕ → Progress → Progress
-passesFrom c n [] p = record { state = p .state; tally = withPasses n (p .tally) }
-passesFrom c n (t ∷ ths) p =
-    let next = visits c t (dataCount c) p in
-    let more = passesFrom c (suc n) ths next in
-    choose (eqb (next .tally .changes) (p .tally .changes)) (record { state = next .state; tally = withPasses (suc n) (next .tally) }) more
-
 pub visits-suc : (c : Code) (t n m : ℕ) (p : Progress) → m ≡ n + 1 → visits c t m p ≡ visitOf c (record { symbol = n; threshold = t }) (visits c t n p)
 unfolding visits
 visits-suc c t n m p e = ap (λ (i : ℕ). visits c t i p) (e ∙ add-one n)
-
-passes-stop : (c : Code) (n t : ℕ) (ths : List ℕ) (p : Progress) → visits c t (dataCount c) p .tally .changes ≡ p .tally .changes
-    → passesFrom c n (t ∷ ths) p ≡ passesFrom c (suc n) [] (visits c t (dataCount c) p)
-unfolding passesFrom
-passes-stop c n t ths p e = simp (eq-eqb _ _ e)
-
-passes-go : (c : Code) (n t : ℕ) (ths : List ℕ) (p : Progress) → (visits c t (dataCount c) p .tally .changes ≡ p .tally .changes → ⊥)
-    → passesFrom c n (t ∷ ths) p ≡ passesFrom c (suc n) ths (visits c t (dataCount c) p)
-unfolding passesFrom
-passes-go c n t ths p e = simp (ne-eqb _ _ e)
-
--- one pass of the list, by the visits that were made
-module _ (c : Code) (n j : ℕ) (ths : List ℕ) (p x : Progress) (h : n < length ths) (whole : j ≡ dataCount c) (e : x ≡ visits c (getD ths n 0) j p) where
-  made : x ≡ visits c (getD ths n 0) (dataCount c) p
-  made = e ∙ rw whole refl
-
-  pub pass-stop : x .tally .changes ≡ p .tally .changes → passesFrom c n (drop n ths) p ≡ passesFrom c (n + 1) [] x
-  pass-stop same = rw (drop-cons ths n 0, add-one, passes-stop c n (getD ths n 0) (drop (suc n) ths) p (rw (← made) same), ← made)
-
-  pub pass-go : (x .tally .changes ≡ p .tally .changes → ⊥) → passesFrom c n (drop n ths) p ≡ passesFrom c (n + 1) (drop (n + 1) ths) x
-  pass-go other = rw (drop-cons ths n 0, add-one, passes-go c n (getD ths n 0) (drop (suc n) ths) p (rw (← made) other), ← made)
-
--- ---- they are model's
 
 visits-pass : (c : Code) (t n : ℕ) (p : Progress)
     → visits c t n p ≡ record {
@@ -97,9 +70,9 @@ visits-pass c t (suc n) p =
     ap (λ (m : ℕ). changeCount (c .q) (checksOf c) (pass (js m) t) (p .state)) (sym (add-one n)) ∙ pass-count-turn (c .q) (checksOf c) t n (p .state) in
     omega arith)))
 
-ran-nil : (c : Code) (n : ℕ) (p : Progress) → ran c n [] p ≡ passesFrom c n [] p
-unfolding ran passesFrom passes after changeCount
-ran-nil c n p = λ i. record {
+pub passes-nil : (c : Code) (n : ℕ) (p : Progress) → passesFrom c n [] p ≡ record { state = p .state; tally = withPasses n (p .tally) }
+unfolding passesFrom thresholdsRun ran passes after changeCount
+passes-nil c n p = λ i. record {
   state = p .state;
   tally = record {
     passes = (let e : n + 0 ≡ n = omega arith in e) i;
@@ -127,27 +100,50 @@ ran-cons c n t ts p =
       end = p .tally .end;
     }))
 
--- the passes that are left are those that decoding runs
-pub passes-run : (c : Code) (n : ℕ) (ths : List ℕ) (p : Progress)
-    → passesFrom c n ths p ≡ ran c n (thresholdsRun (c .q) (checksOf c) (dataSymbols c) ths (p .state)) p
-unfolding thresholdsRun
-passes-run c n [] p = sym (ran-nil c n p)
-passes-run c n (t ∷ ths) p =
+-- ---- the passes that are left, by the visits of the next one
+
+passes-cons : (c : Code) (n t : ℕ) (ths : List ℕ) (p : Progress)
+    → passesFrom c n (t ∷ ths) p
+    ≡ passesFrom c (suc n) (choose (isIdle (c .q) (checksOf c) (dataSymbols c) t (p .state)) (firstSmaller t ths) ths) (visits c t (dataCount c) p)
+unfolding passesFrom
+passes-cons c n t ths p =
+    let q : ℕ = c .q in
     let js : List ℕ = dataSymbols c in
-    let made : ℕ = changeCount (c .q) (checksOf c) (pass js t) (p .state) in
-    let next : Progress = visits c t (dataCount c) p in
-    let later : List ℕ = thresholdsRun (c .q) (checksOf c) js ths (after (c .q) (checksOf c) (pass js t) (p .state)) in
-    let after-pass : next .state ≡ after (c .q) (checksOf c) (pass js t) (p .state) = ap (λ (x : Progress). x .state) (visits-pass c t (dataCount c) p) in
-    let count-pass : next .tally .changes ≡ p .tally .changes + made = ap (λ (x : Progress). x .tally .changes) (visits-pass c t (dataCount c) p) in
-    elim (ℕ-discrete made 0) as (λ o. passesFrom c n (t ∷ ths) p ≡ ran c n (t ∷ choose (eqb made 0) [] later) p) [
-      | yes e ↦ rw (eqb-yes made 0 e)
-          (passes-stop c n t ths p (omega arith) ∙ sym (ran-nil c (suc n) next) ∙ sym (ran-cons c n t [] p))
-      | no d ↦ rw (eqb-no made 0 d)
-          (passes-go c n t ths p (λ e. d (omega arith))
-          ∙ passes-run c (suc n) ths next
-          ∙ ap (λ (st : State). ran c (suc n) (thresholdsRun (c .q) (checksOf c) js ths st) next) after-pass
-          ∙ sym (ran-cons c n t later p))
-    ]
+    let left : List ℕ = choose (isIdle q (checksOf c) js t (p .state)) (firstSmaller t ths) ths in
+    ap (λ (ts : List ℕ). ran c n ts p) (followed q (checksOf c) js t ths (p .state))
+    ∙ ran-cons c n t (thresholdsRun q (checksOf c) js none left (after q (checksOf c) (pass js t) (p .state))) p
+    ∙ ap (λ (st : State). ran c (suc n) (thresholdsRun q (checksOf c) js none left st) (visits c t (dataCount c) p))
+    (sym (ap (λ (x : Progress). x .state) (visits-pass c t (dataCount c) p)))
+
+module _ (c : Code) (n i j : ℕ) (ths : List ℕ) (p x : Progress) (h : i < length ths) (whole : j ≡ dataCount c) (e : x ≡ visits c (getD ths i 0) j p) where
+  made : x ≡ visits c (getD ths i 0) (dataCount c) p
+  made = e ∙ rw whole refl
+
+  -- its changes
+  changed : ℕ
+  changed = changeCount (c .q) (checksOf c) (pass (dataSymbols c) (getD ths i 0)) (p .state)
+
+  counts : x .tally .changes ≡ p .tally .changes + changed
+  unfolding changed
+  counts = ap (λ (y : Progress). y .tally .changes) (made ∙ visits-pass c (getD ths i 0) (dataCount c) p)
+
+  -- the passes that are left, where the test of its changes is b
+  left : (b : Bool) → eqb changed 0 ≡ b
+      → passesFrom c n (drop i ths) p ≡ passesFrom c (n + 1) (choose b (firstSmaller (getD ths i 0) (drop (i + 1) ths)) (drop (i + 1) ths)) x
+  unfolding changed
+  left b f =
+      let t : ℕ = getD ths i 0 in
+      let ts : List ℕ = drop (i + 1) ths in
+      ap (λ (us : List ℕ). passesFrom c n us p) (drop-more ths i h)
+      ∙ passes-cons c n t ts p
+      ∙ ap (λ (b : Bool). passesFrom c (suc n) (choose b (firstSmaller t ts) ts) (visits c t (dataCount c) p)) f
+      ∙ rw (← made, add-one n) refl
+
+  pub pass-idle : x .tally .changes ≡ p .tally .changes → passesFrom c n (drop i ths) p ≡ passesFrom c (n + 1) (firstSmaller (getD ths i 0) (drop (i + 1) ths)) x
+  pass-idle same = left true (eqb-yes changed 0 (omega (arith, counts)))
+
+  pub pass-changed : x .tally .changes ≢ p .tally .changes → passesFrom c n (drop i ths) p ≡ passesFrom c (n + 1) (drop (i + 1) ths) x
+  pass-changed other = left false (eqb-no changed 0 (λ z. other (omega (arith, counts))))
 
 -- ---- what visits keep
 

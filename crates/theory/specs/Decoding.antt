@@ -1,20 +1,21 @@
 -- Decoding a page by a code: demand 3 of any visits from an opened page, and what holds at every moment of them.
 use mathlib.Core.Path.{_≡_, ap, sym, _∙_, subst}
-use mathlib.Core.List.{List}
+use mathlib.Core.List.{List, []}
 use Prim.Native.Nat.{ℕ, _≤_, _<_}
 use native.Mathlib.Omega.{arith}
 use lib.ListN.{take, drop, take-append-drop}
 use Rattle.model.specs.Code.{Code, dataCount, checkCount, pageLength, checksEach, checksOf}
-use Rattle.model.specs.Decoder.{State, Visit, after, passes, opened, distanceTo}
+use Rattle.model.specs.Decoder.{State, Visit, after, changeCount, pass, passes, none, dataSymbols, opened, passesOf, distanceTo}
 use Rattle.model.specs.Demand.{Falls, RunFalls, Recovers}
 use Rattle.model.specs.Symbols.{count, distance}
 use Rattle.theory.specs.Answers.{encoded-symbols, encoded-data}
 use Rattle.theory.specs.Codes.{Usable, code-incidence, code-word, code-opened}
 use Rattle.theory.specs.Counting.{All}
 use Rattle.theory.specs.Distance.{wordOf, Received, Tied, page-distance}
-use Rattle.theory.specs.Falling.{InRange, after-sized, after-tied, falls-spent}
+use Rattle.theory.specs.Falling.{InRange, after-sized, after-tied, idle-after, falls-spent}
 use Rattle.theory.specs.Page.{received, opened-sized, opened-tied, page-falls, page-recovers}
-use Rattle.theory.specs.Runs.{range-passes, covered-passes}
+use Rattle.theory.specs.Runs.{range-pass, range-passes, symbols-range, covered-passes}
+use Rattle.theory.specs.Schedule.{minima, idle-run}
 use Rattle.theory.specs.Steps.{SymbolsBelow, Sized, stateWeight}
 
 module _ (c : Code) (l : Usable c) (page : List ℕ) (whole : SymbolsBelow (c .q) (pageLength c) page) where
@@ -54,6 +55,19 @@ module _ (c : Code) (l : Usable c) (page : List ℕ) (whole : SymbolsBelow (c .q
       (ap (λ (p : List ℕ). distance (wordOf (c .q) (dataCount c) (checkCount c) (checksOf c) (st .result)) p) (sym (take-append-drop (dataCount c) page))
       ∙ page-distance (c .q) (dataCount c) (checkCount c) (code-incidence c l .pos) (checksOf c) (take (dataCount c) page) (drop (dataCount c) page)
       code-received st (code-sized vs) (code-tied vs r))
+
+  -- at distance 0 no visits alter anything
+  pub code-idle : distanceTo c page (opened c page) ≡ 0 → (vs : List Visit) → InRange (dataCount c) vs
+      → (after (c .q) (checksOf c) vs (opened c page) ≡ opened c page) × (changeCount (c .q) (checksOf c) vs (opened c page) ≡ 0)
+  unfolding after
+  code-idle z vs r = idle-after (code-incidence c l) vs r (opened c page) code-opened-sized (sym (code-distance [] tt) ∙ z)
+
+  -- so the passes run are those of which every one is idle
+  pub code-minima : distanceTo c page (opened c page) ≡ 0 → (ts : List ℕ) → passesOf c ts page ≡ minima none ts
+  unfolding passesOf
+  code-minima z ts =
+      let js : List ℕ = dataSymbols c in
+      idle-run (c .q) (checksOf c) js (opened c page) (λ t. code-idle z (pass js t) (range-pass (dataCount c) js t (symbols-range c))) none ts
 
   -- demand 3, second half: passes over all data symbols, one of them with threshold h
   pub code-recovers : (js : List ℕ) → All (λ j. j < dataCount c) js → ((j : ℕ) → j < dataCount c → 0 < count j js) → (ts : List ℕ) (h : ℕ) → 0 < count h ts

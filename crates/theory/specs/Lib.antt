@@ -16,6 +16,7 @@ pub mod Answers
 pub mod OneBranch
 pub mod Outcomes
 pub mod Runs
+pub mod Schedule
 pub mod Decoding
 pub mod Moments
 pub mod Integers

@@ -1,16 +1,15 @@
 -- What holds before and after each visit: result, S and D by the received page, and the bounds of the counts.
-use mathlib.Core.Path.{_≡_, refl, ap, sym, _∙_, subst}
+use mathlib.Core.Path.{_≡_, ap, sym, _∙_, subst}
 use mathlib.Core.Bool.{Bool, true, false}
 use mathlib.Core.List.{List, [], _∷_}
-use Prim.Native.Nat.{ℕ, zero, suc, _+_, _*_, _%_, _≤_, _<_}
+use Prim.Native.Nat.{ℕ, zero, _+_, _*_, _%_, _≤_, _<_}
 use native.Mathlib.Nat.{mod-eq-of-lt}
 use native.Mathlib.Omega.{arith}
-use lib.Dec.{eqb}
 use lib.ListN.{length, getD}
 use lib.Seq.{ext-getD}
-use Rattle.model.specs.Decoder.{State, Visit, changes, visit, after, changeCount, pass, passes, thresholdsRun}
-use Rattle.model.specs.Symbols.{choose, bit, add, sub, count, tabulate, addEach, subEach}
-use Rattle.theory.specs.Counting.{count-cons, same-yes, zeros-weight}
+use Rattle.model.specs.Decoder.{State, Visit, changes, visit, after, changeCount, pass, passes}
+use Rattle.model.specs.Symbols.{bit, add, sub, tabulate, addEach, subEach}
+use Rattle.theory.specs.Counting.{zeros-weight}
 use Rattle.theory.specs.Distance.{length-tabulate, getD-tabulate, checkSymbolsOf, Received, Tied}
 use Rattle.theory.specs.Modulo.{by-eq, sub-add}
 use Rattle.theory.specs.Runs.{changes-append}
@@ -50,26 +49,6 @@ module _ {q m k : ℕ} (pos : zero < q) {checks : ℕ → List ℕ} {x y : List 
           ∙ sym (getD-tabulate (length (tabulate k c)) (λ o. sub q (getD (tabulate k c) o 0) (getD y o 0)) i (rw (length-tabulate k c) l))
 
 -- ---- the counts
-
--- no more passes than thresholds
-pub runs-few : (q : ℕ) (checks : ℕ → List ℕ) (js ts : List ℕ) (st : State) → length (thresholdsRun q checks js ts st) ≤ length ts
-unfolding thresholdsRun
-runs-few q checks js [] st = omega arith
-runs-few q checks js (t ∷ ts) st =
-    go (eqb (changeCount q checks (pass js t) st) 0) (runs-few q checks js ts (after q checks (pass js t) st))
-  where
-    later : List ℕ
-    later = thresholdsRun q checks js ts (after q checks (pass js t) st)
-
-    go : (b : Bool) → length later ≤ length ts → suc (length (choose b [] later)) ≤ suc (length ts)
-    go true h = omega arith
-    go false h = omega arith
-
--- and the first is run
-pub first-run : (q : ℕ) (checks : ℕ → List ℕ) (js ts : List ℕ) (st : State) → 1 ≤ length ts → 0 < count (getD ts 0 0) (thresholdsRun q checks js ts st)
-unfolding thresholdsRun
-first-run q checks js [] st h = absurd (omega arith)
-first-run q checks js (t ∷ ts) st h = rw (count-cons t t) (omega (arith, same-yes t t refl))
 
 -- no more changes than visits
 bit-le : (b : Bool) → bit b ≤ 1

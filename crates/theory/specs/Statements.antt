@@ -1,5 +1,5 @@
 -- The statements that a reviewer reads. Their proofs stand in the other files.
-use mathlib.Core.Path.{_≡_, ap, sym, _∙_, subst}
+use mathlib.Core.Path.{_≡_, refl, ap, sym, _∙_, subst}
 use mathlib.Core.Logic.{_≢_, _↔_}
 use mathlib.Core.Bool.{Bool, true, _&&_}
 use mathlib.Core.List.{List, [], _∷_, _++_}
@@ -12,8 +12,8 @@ use lib.ListN.{length, getD, length-map}
 use lib.Signed.{_≤ℤ_}
 use Rattle.model.specs.Calls.{firstThatApplies, decodeFits, tableAnswer, decodeAnswer}
 use Rattle.model.specs.Code.{Code, codeOf, dataCount, checkCount, pageLength, checksEach, checksBy, checksOf, checkSumBy, checkSymbol, checkSymbols, codeWord, dataOf, receivedChecks, SelfOrthogonal, differencesBy, differences, allDifferent}
-use Rattle.model.specs.Decoder.{State, Visit, estimates, changes, visit, after, passes, dataSymbols, opened, passesOf, run, distanceTo, Counts, decodedState, decodedCounts, marginsOf}
-use Rattle.model.specs.Demand.{VisitFalls, Falls, RunFalls, DecodeFalls, Recovers, DecodeRecovers}
+use Rattle.model.specs.Decoder.{State, Visit, estimates, changes, visit, after, passes, dataSymbols, opened, passesOf, run, distanceTo, Counts, decodedState, decodedCounts, marginsOf, pass, isIdle, none, thresholdsRun, firstSmaller}
+use Rattle.model.specs.Demand.{VisitFalls, Falls, RunFalls, DecodeFalls, Recovers, DecodeRecovers, smallest}
 use Rattle.model.specs.Limits.{TableLimits, Limits}
 use Rattle.model.specs.Symbols.{choose, count, tabulate, addEach, subEach}
 use Rattle.model.specs.Vote.{leader, leadCount, nextCount, votes, margin}
@@ -21,13 +21,14 @@ use Rattle.theory.specs.Answers.{table-accepted, table-accepts, table-us
 use Rattle.theory.specs.Branches.{orthogonal-differences}
 use Rattle.theory.specs.Codes.{code-incidence, check-symbol, check-symbols}
 use Rattle.theory.specs.Counting.{All, length-symbolsAt}
-use Rattle.theory.specs.Decoding.{code-falls, code-received, code-sized, code-tied, code-distance, code-recovers}
+use Rattle.theory.specs.Decoding.{code-falls, code-received, code-sized, code-tied, code-distance, code-recovers, code-minima}
 use Rattle.theory.specs.Distance.{length-tabulate, tabulate-ext}
 use Rattle.theory.specs.Falling.{InRange, visit-no, weight-falls, falls-at}
 use Rattle.theory.specs.Margins.{margin-low, margin-high, margin-top, margin-bottom, other-zero, margin-stays, margin-at}
-use Rattle.theory.specs.Moments.{result-is, syndrome-is, runs-few, first-run, changes-few, weight-few}
+use Rattle.theory.specs.Moments.{result-is, syndrome-is, changes-few, weight-few}
 use Rattle.theory.specs.OneBranch.{firstTests, run-all, checks-all, check-all, differences-all, answer-all}
 use Rattle.theory.specs.Runs.{range-passes, symbols-range, symbols-visited}
+use Rattle.theory.specs.Schedule.{smallest-in, smallest-least, runs-few, smallest-run, followed, minima}
 use Rattle.theory.specs.Steps.{checkSum, SymbolsBelow, Sized, stateWeight}
 use Rattle.theory.specs.Tables.{orthogonal-test}
 use Rattle.theory.specs.Voting.{leader-ahead, lead-max, next-max, next-least, leader-mem}
@@ -153,8 +154,8 @@ module _ (c : Code) (others : Bool) (page thresholds : List ℕ) (lent : State) 
   pub decode-recovers : DecodeRecovers c thresholds page (decodedState c thresholds page .result)
   unfolding decodedState run passesOf
   decode-recovers =
-      code-recovers c (what .opens .usable) page (what .opens .whole) (dataSymbols c) (symbols-range c) (symbols-visited c) (passesOf c thresholds page) (getD thresholds 0 0)
-      (first-run (c .q) (checksOf c) (dataSymbols c) thresholds (opened c page) (what .some))
+      code-recovers c (what .opens .usable) page (what .opens .whole) (dataSymbols c) (symbols-range c) (symbols-visited c) (passesOf c thresholds page) (smallest thresholds)
+      (smallest-run (c .q) (checksOf c) (dataSymbols c) thresholds (opened c page) (what .some))
 
   pub counts-bounded : Bounded (decodedCounts c thresholds page)
   unfolding decodedCounts decodedState run passesOf after
@@ -162,7 +163,7 @@ module _ (c : Code) (others : Bool) (page thresholds : List ℕ) (lent : State) 
       let l = what .opens .usable in
       let js : List ℕ = dataSymbols c in
       let n : length js ≤ 4096 = omega (arith, length-tabulate (dataCount c) (λ j. j), l .table .sizes .data-high) in
-      let few : length (passesOf c thresholds page) ≤ length thresholds = runs-few (c .q) (checksOf c) js thresholds (opened c page) in
+      let few : length (passesOf c thresholds page) ≤ length thresholds = runs-few (c .q) (checksOf c) js none thresholds (opened c page) in
       record {
         passes-most = omega (arith, few, what .few);
         changes-most = omega (arith, few, what .few, changes-few (c .q) (checksOf c) js n (passesOf c thresholds page) (opened c page));
@@ -238,3 +239,29 @@ margin-count c st = length-map (dataSymbols c) (λ j. margin (estimates (checksO
 
 pub margin-of : (c : Code) (st : State) (j : ℕ) → j < dataCount c → getD (marginsOf c st) j (pos 0) ≡ margin (estimates (checksOf c j) j st)
 margin-of c st j h = margin-at c st j h
+
+-- ---- 6. the schedule of the passes (N4)
+
+-- "an idle pass is followed by the first later one in the list whose threshold is smaller; if there is none, decoding stops"; any other pass is
+-- followed by the next in the list; where no threshold is left no pass is run.
+pub pass-followed : (q : ℕ) (checks : ℕ → List ℕ) (symbols : List ℕ) (t : ℕ) (ts : List ℕ) (st : State)
+    → thresholdsRun q checks symbols none (t ∷ ts) st
+    ≡ t ∷ thresholdsRun q checks symbols none (choose (isIdle q checks symbols t st) (firstSmaller t ts) ts) (after q checks (pass symbols t) st)
+pass-followed q checks js t ts st = followed q checks js t ts st
+
+pub none-left : (q : ℕ) (checks : ℕ → List ℕ) (symbols : List ℕ) (st : State) → thresholdsRun q checks symbols none [] st ≡ []
+unfolding thresholdsRun
+none-left q checks js st = refl
+
+-- "the smallest threshold in the list" is one of it, and at most each of it.
+pub record SmallestMeans (ts : List ℕ) : Type 0 where
+  pub one : 0 < count (smallest ts) ts
+  pub least : (t : ℕ) → 0 < count t ts → smallest ts ≤ t
+
+pub smallest-means : (ts : List ℕ) → 0 < length ts → SmallestMeans ts
+smallest-means ts h = record { one = smallest-in ts h; least = smallest-least ts }
+
+-- On a page at distance 0 every pass is idle, and those run are the thresholds that are below all before them.
+pub clean-passes : (c : Code) (page : List ℕ) → Received c page → distanceTo c page (opened c page) ≡ 0 → (thresholds : List ℕ)
+    → passesOf c thresholds page ≡ minima none thresholds
+clean-passes c page w z ts = code-minima c (table-usable c (w .0)) page (w .1) z ts

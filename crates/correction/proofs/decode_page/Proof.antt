@@ -1,4 +1,4 @@
--- `decode_page`: the page is opened; at distance 0 its one pass is idle, else the passes run from the opened page are the decode.
+-- `decode_page`: the page is opened; at distance 0 its passes are idle, else the passes run from the opened page are the decode.
 use borrow.Author.Needs.{needs}
 use mathlib.Core.Path.{_≡_, refl, sym, _∙_, ap, subst}
 use native.Mathlib.Omega.{arith}
@@ -24,6 +24,9 @@ ran c = c .before .before .before .before .before .before .before .before .befor
 open-page-requires : tie.Need-open-page-requires
 open-page-requires c κs = search needs
 
+idle-passes-requires : tie.Need-idle-passes-requires
+idle-passes-requires c κs = start (c .before .before .before .before .before .before .before) .pre .0 .few
+
 opened-requires : tie.Need-opened-requires
 opened-requires c κs = search needs
 
@@ -41,13 +44,13 @@ same-length-3 c = search needs
 
 returns : tie.Need-returns
 returns c =
-    let clean = c .before .before in
+    let clean = c .before .before .before in
     let o = clean .before .before .before .before .before .before .before in
     let b = start o in
     let a = b .args in
     rw (c .passed .ensures, c .before .opened .ensures) (
       both (o .open-page .ensures .0) refl
-          ∙ clean-decoded (codeBy (a .code) (a .positions .now)) (a .page .now) _ (b .pre .0 .opens) (sym (o .open-page .ensures .1) ∙ clean .if1 .taken) (a .thresholds .now) (b .pre .0 .some),
+          ∙ clean-decoded (codeBy (a .code) (a .positions .now)) (a .page .now) _ (b .pre .0 .opens) (sym (o .open-page .ensures .1) ∙ clean .if1 .taken) (a .thresholds .now) _ (c .before .before .idle-passes .ensures),
       λ n. absurd (n refl),
     )
 
@@ -123,6 +126,7 @@ decode-page-spec =
     tie.close
     (tie.spec
     open-page-requires
+    idle-passes-requires
     opened-requires
     passed-requires
     same-length

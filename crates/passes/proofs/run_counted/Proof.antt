@@ -10,30 +10,31 @@ use Rattle.params.specs.Codes.{codeBy}
 use Rattle.checks.specs.Places.{Walk, walk-first, walk-placed, walk-next, walk-over, found, next-fits}
 use Rattle.zeros.specs.Counts.{zeroCounts, length-zeroCounts}
 use Rattle.visits.specs.Progress.{Progress, progress, visitOf, Ready, at-table}
-use Rattle.passes.specs.Runs.{visits, passesFrom, runOf, Kept, kept-by, visits-suc, pass-stop, pass-go, passes-run}
+use Rattle.passes.specs.Runs.{visits, passesFrom, runOf, Kept, kept-by, visits-suc, passes-nil, pass-idle, pass-changed}
 use Rattle.passes.proofs.run_counted.Statement.{statement}
 use Rattle.passes.proofs.run_counted.Tie as tie
 
 abbrev Inv-loop2 : tie.InvT-loop2
-Inv-loop2 code positions thresholds result₀ syndrome₀ difference₀ zeros₀ n symbols each tally₀ p before threshold place₀ result syndrome difference zeros tally place =
+Inv-loop2 code positions thresholds result₀ syndrome₀ difference₀ zeros₀ n symbols each tally₀ p count before threshold place₀ result syndrome difference zeros tally place =
     Walk (codeBy code positions) place
     × (progress result syndrome difference tally ≡ visits (codeBy code positions) threshold (place .symbol) (progress result₀ syndrome₀ difference₀ tally₀))
     × (zeros ≡ zeroCounts (codeBy code positions) syndrome)
 
 abbrev μ-loop2 : tie.MeasureT-loop2
-μ-loop2 code positions thresholds result₀ syndrome₀ difference₀ zeros₀ n symbols each tally₀ p before threshold place₀ result syndrome difference zeros tally place =
+μ-loop2 code positions thresholds result₀ syndrome₀ difference₀ zeros₀ n symbols each tally₀ p count before threshold place₀ result syndrome difference zeros tally place =
     symbols - place .symbol
 
 abbrev Inv-loop : tie.InvT-loop
-Inv-loop code positions thresholds result₀ syndrome₀ difference₀ zeros₀ n symbols each tally₀ p₀ result syndrome difference zeros tally p =
-    (p ≤ n)
+Inv-loop code positions thresholds result₀ syndrome₀ difference₀ zeros₀ n symbols each tally₀ p₀ count₀ result syndrome difference zeros tally p count =
+    (count ≤ p)
+    × (p ≤ n)
     × (zeros ≡ zeroCounts (codeBy code positions) syndrome)
-    × Kept (codeBy code positions) (4096 * p) (progress result₀ syndrome₀ difference₀ tally₀) (progress result syndrome difference tally)
-    × (passesFrom (codeBy code positions) p (drop p thresholds) (progress result syndrome difference tally)
+    × Kept (codeBy code positions) (4096 * count) (progress result₀ syndrome₀ difference₀ tally₀) (progress result syndrome difference tally)
+    × (passesFrom (codeBy code positions) count (drop p thresholds) (progress result syndrome difference tally)
     ≡ passesFrom (codeBy code positions) 0 thresholds (progress result₀ syndrome₀ difference₀ tally₀))
 
 abbrev μ-loop : tie.MeasureT-loop
-μ-loop code positions thresholds result₀ syndrome₀ difference₀ zeros₀ n symbols each tally₀ p₀ result syndrome difference zeros tally p = n - p
+μ-loop code positions thresholds result₀ syndrome₀ difference₀ zeros₀ n symbols each tally₀ p₀ count₀ result syndrome difference zeros tally p count = n - p
 
 -- ---- the places: the start and the outer loop, seen from the loops
 
@@ -58,7 +59,7 @@ within c = progress (c .loop2 .result) (c .loop2 .syndrome) (c .loop2 .differenc
 
 -- what the visits of a pass keep
 kept : (c : tie.At-loop2 Inv-loop2 μ-loop2 Inv-loop μ-loop) → Kept (codeAt (outer c)) (c .loop2 .place .symbol) (between (outer c)) (within c)
-kept c = kept-by _ _ _ _ _ (outer c .loop .inv .2 .ready) (c .loop2 .inv .1)
+kept c = kept-by _ _ _ _ _ (outer c .loop .inv .3 .ready) (c .loop2 .inv .1)
 
 -- ---- the needs
 
@@ -71,7 +72,7 @@ checks-each-requires c κs = c .before .before .before .before .before .before .
 loop-holds : tie.Need-loop-holds Inv-loop2 μ-loop2 Inv-loop μ-loop
 loop-holds c =
     let p = c .before .before .before .before .before .before .before .before .pre in
-    (omega arith, p .3, record { ready = p .0; few = omega arith }, refl)
+    (omega arith, omega arith, p .3, record { ready = p .0; few = omega arith }, refl)
 
 shared-slice-read-threshold : tie.Need-shared-slice-read-threshold Inv-loop2 μ-loop2 Inv-loop μ-loop
 shared-slice-read-threshold c = omega arith
@@ -84,7 +85,7 @@ unfolding visits
 loop2-holds c =
     let l = c .before .before .before in
     let e = c .opening .ensures in
-    (walk-first (codeAt l) (start l .pre .0 .usable .table) _ _ (l .before .checks-each .ensures) e, rw e refl, l .loop .inv .1)
+    (walk-first (codeAt l) (start l .pre .0 .usable .table) _ _ (l .before .checks-each .ensures) e, rw e refl, l .loop .inv .2)
 
 -- a symbol is next, where the inner loop goes on
 next-symbol : (c : tie.Then2 Inv-loop2 μ-loop2 Inv-loop μ-loop) → c .before .before .loop2 .place .symbol < dataCount (codeAt (outer (c .before .before)))
@@ -102,7 +103,7 @@ few-changes c =
     let i = c .before .before in
     let l = outer i in
     let k = kept i in
-    omega (arith, next-symbol c, k .few, l .loop .inv .2 .few, k .ready .usable .table .sizes .data-high, start l .pre .1, start l .pre .2, i .before .before .before .if1 .left)
+    omega (arith, next-symbol c, k .few, l .loop .inv .3 .few, k .ready .usable .table .sizes .data-high, start l .pre .1, start l .pre .2, i .before .before .before .if1 .left)
 
 visit-requires : tie.Need-visit-requires Inv-loop2 μ-loop2 Inv-loop μ-loop
 visit-requires c κs =
@@ -138,24 +139,57 @@ loop2-again c =
     let n = next-place c in
     (n .1, e .0 ∙ ap (visitOf _ _) (l .loop2 .inv .1) ∙ sym (visits-suc _ _ _ _ _ (n .0)), e .1)
 
+add-count : tie.Need-add-count Inv-loop2 μ-loop2 Inv-loop μ-loop
+add-count c = omega arith
+
 add-p : tie.Need-add-p Inv-loop2 μ-loop2 Inv-loop μ-loop
 add-p c = omega arith
 
-loop-less : tie.Need-loop-less Inv-loop2 μ-loop2 Inv-loop μ-loop
-loop-less c = omega arith
+next-smaller-requires : tie.Need-next-smaller-requires Inv-loop2 μ-loop2 Inv-loop μ-loop
+next-smaller-requires c κs = omega arith
 
+-- what a whole pass keeps of the start
+pass-kept : (c : tie.Else2 Inv-loop2 μ-loop2 Inv-loop μ-loop)
+    → let i = c .before .before in Kept (codeAt (outer i)) (4096 * (outer i .loop .count + 1)) (at-start (outer i)) (within i)
+pass-kept c =
+    let k = kept (c .before .before) in
+    record { ready = k .ready; few = omega (arith, all-visited c, k .few, outer (c .before .before) .loop .inv .3 .few, k .ready .usable .table .sizes .data-high) }
+
+loop-less : tie.Need-loop-less Inv-loop2 μ-loop2 Inv-loop μ-loop
+loop-less c = omega (arith, c .before .next-smaller .ensures .0)
+
+-- after an idle pass
 loop-again : tie.Need-loop-again Inv-loop2 μ-loop2 Inv-loop μ-loop
 loop-again c =
-    let x = c .before .before in
+    let x = c .before .before .before .before in
     let l = x .before .before in
     let o = outer l .loop in
-    let k = kept l in
-    let h = all-visited x in (
+    let e = c .before .next-smaller .ensures in
+    let ths : List ℕ = start (outer l) .args .thresholds .now in (
+      omega (arith, e .0),
+      e .1,
+      l .loop2 .inv .2,
+      pass-kept x,
+      ap (λ (ts : List ℕ). passesFrom (codeAt (outer l)) (o .count + 1) ts (within l)) (e .2)
+          ∙ sym (pass-idle (codeAt (outer l)) (o .count) (o .p) (l .loop2 .place .symbol) ths (between (outer l)) (within l) (omega arith) (all-visited x) (l .loop2 .inv .1) (omega (arith, c .before .before .if3 .taken)))
+          ∙ o .inv .4,
+    )
+
+loop-less-2 : tie.Need-loop-less-2 Inv-loop2 μ-loop2 Inv-loop μ-loop
+loop-less-2 c = omega arith
+
+-- after a pass that changed something
+loop-again-2 : tie.Need-loop-again-2 Inv-loop2 μ-loop2 Inv-loop μ-loop
+loop-again-2 c =
+    let x = c .before .before in
+    let l = x .before .before in
+    let o = outer l .loop in (
+      omega arith,
       omega arith,
       l .loop2 .inv .2,
-      record { ready = k .ready; few = omega (arith, h, k .few, o .inv .2 .few, k .ready .usable .table .sizes .data-high) },
-      sym (pass-go (codeAt (outer l)) (o .p) (l .loop2 .place .symbol) (start (outer l) .args .thresholds .now) (between (outer l)) (within l) (omega arith) h (l .loop2 .inv .1) (c .if3 .left))
-          ∙ o .inv .3,
+      pass-kept x,
+      sym (pass-changed (codeAt (outer l)) (o .count) (o .p) (l .loop2 .place .symbol) (start (outer l) .args .thresholds .now) (between (outer l)) (within l) (omega arith) (all-visited x) (l .loop2 .inv .1) (c .if3 .left))
+          ∙ o .inv .4,
     )
 
 -- what holds where the two ways out of the loop meet: p is the start, x the end
@@ -189,15 +223,17 @@ done c =
     let ths : List ℕ = start b .args .thresholds .now in
     let p = start b .pre in
     ⊎-elim
-    (λ w. rw (w .1, w .2, w .3, w .4, w .5, w .7)
-    (left (omega arith) (p .0) (o .inv .2 .ready) (p .3) (o .inv .1)
-    (ap (λ (l : List ℕ). passesFrom (codeAt b) (o .p) l (between b)) (sym (drop-of-length-le ths (w .0 .taken))) ∙ o .inv .3)))
-    (λ w. rw (w .8, w .9, w .10, w .11, w .12, w .14)
+    (λ w. rw (w .1, w .2, w .3, w .4, w .5, w .8)
+    (left (omega arith) (p .0) (o .inv .3 .ready) (p .3) (o .inv .2)
+    (ap (λ (l : List ℕ). passesFrom (codeAt b) (o .count) l (between b)) (sym (drop-of-length-le ths (w .0 .taken))) ∙ o .inv .4)))
+    (λ w. rw (w .10, w .11, w .12, w .13, w .14, w .17)
     (let i = w .3 in
     let x = progress (i .result) (i .syndrome) (i .difference) (i .tally) in
     let h : i .place .symbol ≡ dataCount (codeAt b) = walk-over (i .inv .0) (omega (arith, b .before .before .data-count .ensures, w .5 .left)) in
-    left (omega arith) (p .0) (kept-by _ _ _ _ _ (o .inv .2 .ready) (i .inv .1) .ready) (p .3) (i .inv .2)
-    (sym (pass-stop (codeAt b) (o .p) (i .place .symbol) ths (between b) x (omega arith) h (i .inv .1) (w .7 .taken)) ∙ o .inv .3)))
+    let over : length ths ≤ w .8 .result = omega (arith, w .9 .taken) in
+    left (omega arith) (p .0) (kept-by _ _ _ _ _ (o .inv .3 .ready) (i .inv .1) .ready) (p .3) (i .inv .2)
+    (ap (λ (l : List ℕ). passesFrom (codeAt b) (o .count + 1) l x) (sym (drop-of-length-le ths over) ∙ w .8 .ensures .2)
+    ∙ sym (pass-idle (codeAt b) (o .count) (o .p) (i .place .symbol) ths (between b) x (omega arith) h (i .inv .1) (omega (arith, w .7 .taken))) ∙ o .inv .4)))
     (c .if1 .came)
 
 cast-passed : tie.Need-cast-passed Inv-loop2 μ-loop2 Inv-loop μ-loop
@@ -219,8 +255,8 @@ same-length-4 : tie.Need-same-length-4 Inv-loop2 μ-loop2 Inv-loop μ-loop
 same-length-4 c = done (c .before .before) .len-zeros
 
 returns : tie.Need-returns Inv-loop2 μ-loop2 Inv-loop μ-loop
-unfolding runOf passesFrom
-returns c = let d = done (c .before .before) in (rw (c .passed .ensures) (d .ran ∙ passes-run _ 0 _ _), d .counts)
+unfolding runOf
+returns c = let d = done (c .before .before) in (rw (c .passed .ensures) (sym (passes-nil _ _ _) ∙ d .ran), d .counts)
 
 pub run-counted-spec : {M : Type 1} → statement M
 run-counted-spec =
@@ -240,9 +276,13 @@ run-counted-spec =
     next-requires
     loop2-less
     loop2-again
+    add-count
     add-p
+    next-smaller-requires
     loop-less
     loop-again
+    loop-less-2
+    loop-again-2
     cast-passed
     passed-requires
     same-length
