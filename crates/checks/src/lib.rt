@@ -122,11 +122,10 @@ pub fn subtract_at(code: Params, positions: &[u16], j: usize, h: u8, s: &mut [u8
         × Below (code .q) (now s) ⌝ }
     ensures { λ _. ⌜ now (s .exit) ≡ subtractAt (code .q) h (checksBy (code .k) (now (positions .entry)) j) (now (s .entry)) ⌝ }
 {
-    let top = symbols::highest(code.q);
     let mut i = 0;
     while i < positions.len() {
         let c = check_of(code.k, j, positions[i]);
-        s[c] = symbols::sub_mod(top, s[c], h);
+        s[c] = symbols::sub_mod(code.q, s[c], h);
         i += 1;
     }
 }

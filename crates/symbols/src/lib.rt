@@ -11,8 +11,8 @@ pub fn equal(a: u8, b: u8) -> u8
     if a == b { 1 } else { 0 }
 }
 
-// The highest symbol. It stands for q where a byte is wanted, since q = 256 fits none.
-pub fn highest(q: u32) -> u8
+// The highest symbol. It stands for q in the sums, which are of bytes, since q = 256 fits none.
+fn highest(q: u32) -> u8
     requires { ⌜ (1 ≤ q) × (q ≤ 256) ⌝ }
     ensures { λ r. ⌜ r + 1 ≡ q ⌝ }
 {
@@ -40,28 +40,26 @@ pub fn add_mod(top: u8, a: u8, b: u8) -> u8
     std::num::wrapping_sub_u8(sum, carried(top, a, room))
 }
 
-// The difference modulo top + 1, without a remainder.
-pub fn sub_mod(top: u8, a: u8, b: u8) -> u8
-    requires { ⌜ (a ≤ top) × (b ≤ top) ⌝ }
-    ensures { λ r. ⌜ r ≡ sub (top + 1) a b ⌝ }
+// The difference modulo q, without a remainder: a − b where b is at most a (no borrow), a + q − b otherwise (one borrow of q).
+pub fn sub_mod(q: u32, a: u8, b: u8) -> u8
+    requires { ⌜ (q ≤ 256) × (a < q) × (b < q) ⌝ }
+    ensures { λ r. ⌜ r ≡ sub q a b ⌝ }
 {
-    if b <= a { a - b } else { a + (top - b) + 1 }
+    if b <= a {
+        a - b
+    } else {
+        ((a as u32) + q - (b as u32)) as u8
+    }
 }
 
-// At q = 256 a byte's own wrapping sum and difference are those of symbols.
+// At q = 256 a byte's own wrapping sum is that of symbols.
 fn add_byte(a: u8, b: u8) -> u8
     ensures { λ r. ⌜ r ≡ add 256 a b ⌝ }
 {
     std::num::wrapping_add_u8(a, b)
 }
 
-fn sub_byte(a: u8, b: u8) -> u8
-    ensures { λ r. ⌜ r ≡ sub 256 a b ⌝ }
-{
-    std::num::wrapping_sub_u8(a, b)
-}
-
-// The loops at q = 256: a turn takes one or two wrapping sums, or a difference.
+// The sums at q = 256: a turn takes one or two wrapping sums.
 fn add_bytes(acc: &mut [u8], src: &[u8])
     requires { ⌜ length (now acc) ≡ length (now src) ⌝ }
     ensures { λ _. ⌜ now (acc .exit) ≡ addEach 256 (now (acc .entry)) (now (src .entry)) ⌝ }
@@ -84,18 +82,7 @@ fn add_two_bytes(acc: &mut [u8], xs: &[u8], ys: &[u8])
     }
 }
 
-fn sub_bytes(dst: &mut [u8], xs: &[u8], ys: &[u8])
-    requires { ⌜ (length (now dst) ≡ length (now xs)) × (length (now dst) ≡ length (now ys)) ⌝ }
-    ensures { λ _. ⌜ now (dst .exit) ≡ subEach 256 (now (xs .entry)) (now (ys .entry)) ⌝ }
-{
-    let mut i = 0;
-    while i < dst.len() {
-        dst[i] = sub_byte(xs[i], ys[i]);
-        i += 1;
-    }
-}
-
-// The loops at any other q, by its highest symbol.
+// The sums at any other q, by its highest symbol.
 fn add_symbols(top: u8, acc: &mut [u8], src: &[u8])
     requires { ⌜ (length (now acc) ≡ length (now src)) × Below (top + 1) (now acc) × Below (top + 1) (now src) ⌝ }
     ensures { λ _. ⌜ now (acc .exit) ≡ addEach (top + 1) (now (acc .entry)) (now (src .entry)) ⌝ }
@@ -118,17 +105,6 @@ fn add_two_symbols(top: u8, acc: &mut [u8], xs: &[u8], ys: &[u8])
     let mut i = 0;
     while i < acc.len() {
         acc[i] = add_mod(top, add_mod(top, acc[i], xs[i]), ys[i]);
-        i += 1;
-    }
-}
-
-fn sub_symbols(top: u8, dst: &mut [u8], xs: &[u8], ys: &[u8])
-    requires { ⌜ (length (now dst) ≡ length (now xs)) × (length (now dst) ≡ length (now ys)) × Below (top + 1) (now xs) × Below (top + 1) (now ys) ⌝ }
-    ensures { λ _. ⌜ now (dst .exit) ≡ subEach (top + 1) (now (xs .entry)) (now (ys .entry)) ⌝ }
-{
-    let mut i = 0;
-    while i < dst.len() {
-        dst[i] = sub_mod(top, xs[i], ys[i]);
         i += 1;
     }
 }
@@ -164,18 +140,25 @@ pub fn add_two_into(q: u32, acc: &mut [u8], xs: &[u8], ys: &[u8])
 }
 
 // ys subtracted from xs, symbol by symbol, and written over dst.
+fn sub_symbols(q: u32, dst: &mut [u8], xs: &[u8], ys: &[u8])
+    requires { ⌜ (q ≤ 256) × (length (now dst) ≡ length (now xs)) × (length (now dst) ≡ length (now ys)) × Below q (now xs) × Below q (now ys) ⌝ }
+    ensures { λ _. ⌜ now (dst .exit) ≡ subEach q (now (xs .entry)) (now (ys .entry)) ⌝ }
+{
+    let mut i = 0;
+    while i < dst.len() {
+        dst[i] = sub_mod(q, xs[i], ys[i]);
+        i += 1;
+    }
+}
+
+// The same. At q = 256 by the constant, since both cases then compile to the byte's own difference.
 pub fn sub_into(q: u32, dst: &mut [u8], xs: &[u8], ys: &[u8])
-    requires { ⌜ (2 ≤ q)
-        × (q ≤ 256)
-        × (length (now dst) ≡ length (now xs))
-        × (length (now dst) ≡ length (now ys))
-        × Below q (now xs)
-        × Below q (now ys) ⌝ }
+    requires { ⌜ (q ≤ 256) × (length (now dst) ≡ length (now xs)) × (length (now dst) ≡ length (now ys)) × Below q (now xs) × Below q (now ys) ⌝ }
     ensures { λ _. ⌜ now (dst .exit) ≡ subEach q (now (xs .entry)) (now (ys .entry)) ⌝ }
 {
     if q == 256 {
-        sub_bytes(dst, xs, ys);
+        sub_symbols(256, dst, xs, ys);
     } else {
-        sub_symbols(highest(q), dst, xs, ys);
+        sub_symbols(q, dst, xs, ys);
     }
 }

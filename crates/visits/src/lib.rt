@@ -51,9 +51,8 @@ fn subtract_symbol(code: Params, j: usize, h: u8, result: &mut [u8], difference:
     ensures { λ _. ⌜ (now (result .exit) ≡ set (now (result .entry)) j (sub (code .q) (getD (now (result .entry)) j 0) h))
         × (now (difference .exit) ≡ set (now (difference .entry)) j (sub (code .q) (getD (now (difference .entry)) j 0) h)) ⌝ }
 {
-    let top = symbols::highest(code.q);
-    result[j] = symbols::sub_mod(top, result[j], h);
-    difference[j] = symbols::sub_mod(top, difference[j], h);
+    result[j] = symbols::sub_mod(code.q, result[j], h);
+    difference[j] = symbols::sub_mod(code.q, difference[j], h);
 }
 
 // The change of a data symbol by h.

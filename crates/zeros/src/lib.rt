@@ -145,14 +145,13 @@ pub fn subtract_checks(
     ensures { λ _. ⌜ (now (s .exit) ≡ subtractAt (code .q) h (checksOf (codeBy code (now (positions .entry))) (place .symbol)) (now (s .entry)))
         × (now (zeros .exit) ≡ zeroCounts (codeBy code (now (positions .entry))) (now (s .exit))) ⌝ }
 {
-    let top = symbols::highest(code.q);
     let first = place.first;
     let each = place.last - first;
     let index = place.symbol - place.start;
     let mut i = 0;
     while i < each {
         let c = checks::check_of(code.k, index, positions[first + i]);
-        let v = symbols::sub_mod(top, s[c], h);
+        let v = symbols::sub_mod(code.q, s[c], h);
         write_check(code, positions, each, c, v, s, zeros);
         i += 1;
     }

@@ -1,26 +1,22 @@
 -- `subtract_at`: h is subtracted at the checks by the first i positions; at the end these are all checks of j.
-use mathlib.Core.Path.{_∙_, ap, refl}
-use Prim.Native.Nat.{ℕ, _-_}
+use mathlib.Core.Path.{refl}
+use Prim.Native.Nat.{_-_}
 use native.Mathlib.Omega.{arith}
 use borrow.Author.Needs.{needs}
-use lib.ListN.{length, getD}
-use Rattle.model.specs.Symbols.{sub}
+use lib.ListN.{length}
 use Rattle.checks.specs.Checks.{at-checks-of, by-position, check-inside, Subtracted, subtract-none, subtract-below, subtract-turn, subtract-all}
 use Rattle.checks.proofs.subtract_at.Statement.{statement}
 use Rattle.checks.proofs.subtract_at.Tie as tie
 
 abbrev Inv-loop : tie.InvT-loop
-Inv-loop code positions j h s₀ top i₀ s i = Subtracted (code .q) h (code .k) positions j s₀ i s
+Inv-loop code positions j h s₀ i₀ s i = Subtracted (code .q) h (code .k) positions j s₀ i s
 
 abbrev μ-loop : tie.MeasureT-loop
-μ-loop code positions j h s₀ top i₀ s i = length positions - i
+μ-loop code positions j h s₀ i₀ s i = length positions - i
 
 -- the start, seen from the loop
 abbrev start : tie.At-loop Inv-loop μ-loop → tie.Start Inv-loop μ-loop
-start c = c .before .before .before .before
-
-highest-requires : tie.Need-highest-requires Inv-loop μ-loop
-highest-requires c κs = omega arith
+start c = c .before .before .before
 
 loop-holds : tie.Need-loop-holds Inv-loop μ-loop
 loop-holds c = subtract-none _ _ _ _ _ _
@@ -46,7 +42,7 @@ sub-mod-requires : tie.Need-sub-mod-requires Inv-loop μ-loop
 sub-mod-requires c κs =
     let l = c .before .before .before .before in
     let low = subtract-below (l .loop .inv) (omega arith) (start l .pre .4) in
-    omega (arith, low (c .before .check-of .result), l .before .highest .ensures)
+    omega (arith, low (c .before .check-of .result))
 
 slice-write-s : tie.Need-slice-write-s Inv-loop μ-loop
 slice-write-s c = slice-read-sub-mod (c .before)
@@ -61,8 +57,7 @@ loop-again : tie.Need-loop-again Inv-loop μ-loop
 loop-again c =
     let l = c .before .before .before .before .before in
     let at = c .before .before .check-of in
-    subtract-turn (l .loop .inv) _ _ _ (omega arith) (at .ensures)
-    (c .sub-mod .ensures ∙ ap (λ (q : ℕ). sub q (getD (l .loop .s) (at .result) 0) (start l .args .h)) (l .before .highest .ensures)) refl
+    subtract-turn (l .loop .inv) _ _ _ (omega arith) (at .ensures) (c .sub-mod .ensures) refl
 
 same-length : tie.Need-same-length Inv-loop μ-loop
 same-length c = omega arith
@@ -76,7 +71,6 @@ subtract-at-spec =
     (tie.spec
     Inv-loop
     μ-loop
-    highest-requires
     loop-holds
     mul-check-of
     shared-slice-read-check-of

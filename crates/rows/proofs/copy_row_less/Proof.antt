@@ -39,7 +39,6 @@ sub-into-requires c κs =
     let b = c .before .before .before .before .before .before in
     let a = b .args in (
       omega arith,
-      omega arith,
       simp (length-take, length-drop) (omega arith),
       simp (length-take, length-drop) (omega arith),
       λ i. omega (arith, below-part (a .q) (omega arith) 0 (length (a .src .now) - a .p) (a .src .now) (b .pre .5) i),
@@ -70,7 +69,6 @@ sub-into-requires-2 c κs =
     let a = b .args in
     let rest : ℕ = length (a .src .now) - a .p in
     let len = sym (slice-aggregate-sub-into-2 (c .before .before)) in (
-      omega arith,
       omega arith,
       len ∙ simp (length-take, length-drop) (omega arith),
       len ∙ simp length-take (omega arith),

@@ -1,6 +1,6 @@
--- `sub_symbols`: the first i symbols are differences modulo top + 1, the rest is as it was; at the end all are differences.
+-- `sub_symbols`: the first i symbols are differences modulo q, the rest is as it was; at the end all are differences.
 use mathlib.Core.Path.{ap, _∙_}
-use Prim.Native.Nat.{ℕ, _+_, _-_}
+use Prim.Native.Nat.{ℕ, _-_}
 use native.Mathlib.Omega.{arith}
 use lib.ListN.{length, getD}
 use Rattle.model.specs.Symbols.{sub, subEach, tabulate}
@@ -9,10 +9,10 @@ use Rattle.symbols.proofs.sub_symbols.Statement.{statement}
 use Rattle.symbols.proofs.sub_symbols.Tie as tie
 
 abbrev Inv-loop : tie.InvT-loop
-Inv-loop top dst₀ xs ys i₀ dst i = Written (λ l x. sub (top + 1) (getD xs l 0) (getD ys l 0)) dst₀ i dst
+Inv-loop q dst₀ xs ys i₀ dst i = Written (λ l x. sub q (getD xs l 0) (getD ys l 0)) dst₀ i dst
 
 abbrev μ-loop : tie.MeasureT-loop
-μ-loop top dst₀ xs ys i₀ dst i = length dst₀ - i
+μ-loop q dst₀ xs ys i₀ dst i = length dst₀ - i
 
 loop-holds : tie.Need-loop-holds Inv-loop μ-loop
 loop-holds c = opened _ _
@@ -26,7 +26,7 @@ shared-slice-read-sub-mod-2 c = omega arith
 sub-mod-requires : tie.Need-sub-mod-requires Inv-loop μ-loop
 sub-mod-requires c κs =
     let l = c .before .before .before .loop in
-    let p = c .before .before .before .before .before .before .before .pre in omega (arith, p .2 (l .i), p .3 (l .i))
+    let p = c .before .before .before .before .before .before .before .pre in omega (arith, p .3 (l .i), p .4 (l .i))
 
 slice-write-dst : tie.Need-slice-write-dst Inv-loop μ-loop
 slice-write-dst c = omega arith
@@ -47,7 +47,7 @@ returns : tie.Need-returns Inv-loop μ-loop
 unfolding subEach
 returns c =
     let a = c .before .before .before .before .before in
-    closed (c .before .loop .inv) (omega arith) ∙ ap (λ (n : ℕ). tabulate n (λ l. sub (a .args .top + 1) (getD (a .args .xs .now) l 0) (getD (a .args .ys .now) l 0))) (a .pre .0)
+    closed (c .before .loop .inv) (omega arith) ∙ ap (λ (n : ℕ). tabulate n (λ l. sub (a .args .q) (getD (a .args .xs .now) l 0) (getD (a .args .ys .now) l 0))) (a .pre .1)
 
 pub sub-symbols-spec : {M : Type 1} → statement M
 sub-symbols-spec =

@@ -3,9 +3,9 @@ use mathlib.Core.Path.{_≡_, _∙_, ap, sym}
 use mathlib.Core.List.{List}
 use Prim.Native.Nat.{ℕ, _+_, _-_, _%_, _<_}
 use native.Mathlib.Omega.{arith}
-use lib.ListN.{length, getD, take, drop}
+use lib.ListN.{length, take, drop}
 use Rattle.model.specs.Code.{Code}
-use Rattle.model.specs.Symbols.{sub, subtractAt}
+use Rattle.model.specs.Symbols.{subtractAt}
 use Rattle.params.specs.Codes.{codeBy}
 use Rattle.checks.specs.Checks.{AtChecks, at-checks-of, by-position, check-inside, Subtracted, subtract-none, subtract-below, subtract-turn, subtract-all}
 use Rattle.checks.specs.Places.{Found, found, at-table-of}
@@ -18,15 +18,15 @@ abbrev runAt : List ℕ → ℕ → ℕ → List ℕ
 runAt positions first each = take each (drop first positions)
 
 abbrev Inv-loop : tie.InvT-loop
-Inv-loop code positions h s₀ zeros₀ top first each index i₀ s zeros i =
+Inv-loop code positions h s₀ zeros₀ first each index i₀ s zeros i =
     Subtracted (code .q) h (code .k) (runAt positions first each) index s₀ i s × (zeros ≡ zeroCounts (codeBy code positions) s)
 
 abbrev μ-loop : tie.MeasureT-loop
-μ-loop code positions h s₀ zeros₀ top first each index i₀ s zeros i = each - i
+μ-loop code positions h s₀ zeros₀ first each index i₀ s zeros i = each - i
 
 -- the start, seen from the loop, the code, the run, and what the place is good for
 abbrev start : tie.At-loop Inv-loop μ-loop → tie.Start Inv-loop μ-loop
-start c = c .before .before .before .before .before .before .before
+start c = c .before .before .before .before .before .before
 
 abbrev code : tie.Start Inv-loop μ-loop → Code
 code c = codeBy (c .args .code) (c .args .positions .now)
@@ -45,17 +45,14 @@ at c = at-checks-of (place (start c) .checks-lent) (c .loop .s) (c .loop .inv .0
 inside : (c : tie.In-loop Inv-loop μ-loop) → c .before .loop .i < length (run (start (c .before)))
 inside c = omega (arith, place (start (c .before)) .run-length)
 
-highest-requires : tie.Need-highest-requires Inv-loop μ-loop
-highest-requires c κs = omega arith
-
 sub-each : tie.Need-sub-each Inv-loop μ-loop
-sub-each c = place (c .before .before .before .before .before) .first-last
+sub-each c = place (c .before .before .before .before) .first-last
 
 sub-index : tie.Need-sub-index Inv-loop μ-loop
-sub-index c = place (c .before .before .before .before .before .before) .start-low
+sub-index c = place (c .before .before .before .before .before) .start-low
 
 loop-holds : tie.Need-loop-holds Inv-loop μ-loop
-loop-holds c = (subtract-none _ _ _ _ _ _, c .before .before .before .before .before .before .pre .5)
+loop-holds c = (subtract-none _ _ _ _ _ _, c .before .before .before .before .before .pre .5)
 
 add-check-of : tie.Need-add-check-of Inv-loop μ-loop
 add-check-of c = let g = place (start (c .before)) in omega (arith, g .few, g .first-last)
@@ -79,7 +76,7 @@ sub-mod-requires : tie.Need-sub-mod-requires Inv-loop μ-loop
 sub-mod-requires c κs =
     let l = c .before .before .before .before in
     let low = subtract-below (l .loop .inv .0) (omega arith) (start l .pre .4) in
-    omega (arith, low (c .before .check-of .result), l .before .before .before .highest .ensures)
+    omega (arith, low (c .before .check-of .result))
 
 write-check-requires : tie.Need-write-check-requires Inv-loop μ-loop
 write-check-requires c κs =
@@ -103,7 +100,7 @@ loop-again c =
     let chk = c .before .before .before .before .before .before .before .before .before .check-of in (
       subtract-turn (l .loop .inv .0) _ _ _ (inside o)
           (chk .ensures ∙ ap (λ (p : ℕ). (a .place .symbol - a .place .start + p) % a .code .k) (g .position (l .loop .i) (omega (arith, inside o, g .run-length))))
-          (c .before .before .before .before .before .before .before .sub-mod .ensures ∙ ap (λ (q : ℕ). sub q (getD (l .loop .s) (chk .result) 0) (a .h)) (l .before .before .before .highest .ensures)) (w .0),
+          (c .before .before .before .before .before .before .before .sub-mod .ensures) (w .0),
       w .1 ∙ ap (zeroCounts _) (sym (w .0)),
     )
 
@@ -128,7 +125,6 @@ subtract-checks-spec =
     (tie.spec
     Inv-loop
     μ-loop
-    highest-requires
     sub-each
     sub-index
     loop-holds
