@@ -1,9 +1,10 @@
 -- The places of data symbols, branch by branch: by their number, and one after the other.
 use mathlib.Core.Path.{_≡_, refl, ap, sym, subst, _∙_}
+use mathlib.Core.Logic.{_≢_}
 use mathlib.Core.List.{List}
 use Prim.Native.Nat.{ℕ, suc, _+_, _*_, _-_, _/_, _%_, _<_, _≤_}
 use native.Mathlib.Nat.{mod-lt, div-add-mod', mul-le-mul-right, zero-mul}
-use native.Mathlib.Decide.{ℕ-discrete}
+use native.Mathlib.Decide.{ℕ-discrete, decLt}
 use native.Mathlib.Omega.{arith}
 use lib.Arith.{digits-div}
 use lib.Dec.{eqb}
@@ -12,7 +13,7 @@ use lib.Seq.{getD-take, getD-drop}
 use Rattle.model.specs.Code.{Code, dataCount, checkCount, checksEach, branchAt, checksBy, checksOf}
 use Rattle.model.specs.Limits.{TableLimits}
 use Rattle.model.specs.Symbols.{choose}
-use Rattle.theory.specs.Branches.{branch-of, run-part, run-inside}
+use Rattle.theory.specs.Branches.{branch-of, branch-inside, run-part, run-inside}
 use Rattle.theory.specs.Counting.{eqb-yes, eqb-no}
 use Rattle.checks.specs.Checks.{AtChecks, at-run}
 use Rattle.checks.specs.declared.Place.{Place}
@@ -27,12 +28,26 @@ placeAt c j = record {
   last = j / c .k * checksEach c + checksEach c;
 }
 
+-- the next number in the same branch, and the same number in the next branch
+abbrev pub alongPlace : Place → Place
+alongPlace p = record { symbol = p .symbol + 1; start = p .start; end = p .end; first = p .first; last = p .last }
+
+abbrev pub onwardPlace : ℕ → Place → Place
+onwardPlace k p = record { symbol = p .symbol; start = p .end; end = p .end + k; first = p .last; last = p .last + (p .last - p .first) }
+
 -- the place after another
 unfoldable pub nextPlace : ℕ → Place → Place
-nextPlace k p =
-    choose (eqb (p .symbol + 1) (p .end))
-    (record { symbol = p .symbol + 1; start = p .end; end = p .end + k; first = p .last; last = p .last + (p .last - p .first) })
-    (record { symbol = p .symbol + 1; start = p .start; end = p .end; first = p .first; last = p .last })
+nextPlace k p = choose (eqb (p .symbol + 1) (p .end)) (onwardPlace k (alongPlace p)) (alongPlace p)
+
+-- by these two steps
+module _ (k : ℕ) (p q : Place) (e : q ≡ alongPlace p) where
+  pub next-onward : q .symbol ≡ q .end → onwardPlace k q ≡ nextPlace k p
+  unfolding nextPlace
+  next-onward h = rw (eqb-yes (p .symbol + 1) (p .end) (sym (ap (λ (x : Place). x .symbol) e) ∙ h ∙ ap (λ (x : Place). x .end) e)) (ap (onwardPlace k) e)
+
+  pub next-along : q .symbol ≢ q .end → q ≡ nextPlace k p
+  unfolding nextPlace
+  next-along n = rw (eqb-no (p .symbol + 1) (p .end) (λ h. n (ap (λ (x : Place). x .symbol) e ∙ h ∙ sym (ap (λ (x : Place). x .end) e)))) e
 
 -- two places of one number, by the branch's symbols and its run
 place-by : (j : ℕ) {s s′ e e′ f f′ l l′ : ℕ} → s ≡ s′ → e ≡ e′ → f ≡ f′ → l ≡ l′
@@ -103,6 +118,122 @@ module _ {c : Code} {p : Place} (w : Walk c p) where
 
   pub walk-over : dataCount c ≤ p .symbol → p .symbol ≡ dataCount c
   walk-over h = omega (arith, w .within)
+
+-- ---- a walk branch by branch
+
+-- a place of a branch, or the one after its last symbol
+pub record InBranch (c : Code) (p : Place) : Type 0 where
+  pub branch : ℕ
+  pub inside : branch < c .b
+  pub start-is : p .start ≡ branch * c .k
+  pub end-is : p .end ≡ branch * c .k + c .k
+  pub first-is : p .first ≡ branch * checksEach c
+  pub last-is : p .last ≡ branch * checksEach c + checksEach c
+  pub low : p .start ≤ p .symbol
+  pub high : p .symbol ≤ p .end
+
+-- the first place of a branch, or the one after all branches
+pub record AtBranch (c : Code) (p : Place) : Type 0 where
+  pub branch : ℕ
+  pub within : branch ≤ c .b
+  pub here : p ≡ record { symbol = branch * c .k; start = branch * c .k; end = branch * c .k + c .k; first = branch * checksEach c; last = branch * checksEach c + checksEach c }
+
+pub branch-first : (c : Code) (each : ℕ) (p : Place) → each ≡ checksEach c → p ≡ record { symbol = 0; start = 0; end = c .k; first = 0; last = each } → AtBranch c p
+branch-first c each p e f = record {
+  branch = 0;
+  within = omega arith;
+  here = f ∙ ap (λ (n : ℕ). record { symbol = 0; start = 0; end = c .k; first = 0; last = n }) e
+      ∙ (λ o. record {
+        symbol = sym (zero-mul (c .k)) o;
+        start = sym (zero-mul (c .k)) o;
+        end = (let z : c .k ≡ 0 * c .k + c .k = omega (arith, zero-mul (c .k)) in z) o;
+        first = sym (zero-mul (checksEach c)) o;
+        last = (let z : checksEach c ≡ 0 * checksEach c + checksEach c = omega (arith, zero-mul (checksEach c)) in z) o;
+      });
+}
+
+module _ {c : Code} {p : Place} (t : TableLimits c) (w : AtBranch c p) where
+  number : p .symbol ≡ w .branch * c .k
+  number = ap (λ (x : Place). x .symbol) (w .here)
+
+  -- a branch is next
+  pub branch-next : p .symbol < dataCount c → InBranch c p
+  branch-next h = record {
+    branch = w .branch;
+    inside = elim (decLt (w .branch) (c .b)) as (λ o. w .branch < c .b)
+        [ yes l ↦ l | no l ↦ absurd (omega (arith, h, number, mul-le-mul-right (c .k) (let z : c .b ≤ w .branch = omega arith in z))) ];
+    start-is = ap (λ (x : Place). x .start) (w .here);
+    end-is = ap (λ (x : Place). x .end) (w .here);
+    first-is = ap (λ (x : Place). x .first) (w .here);
+    last-is = ap (λ (x : Place). x .last) (w .here);
+    low = omega (arith, number, ap (λ (x : Place). x .start) (w .here));
+    high = omega (arith, number, ap (λ (x : Place). x .end) (w .here));
+  }
+
+  -- a branch has a symbol
+  pub branch-some : p .symbol < p .end
+  branch-some = omega (arith, number, ap (λ (x : Place). x .end) (w .here), t .sizes .k-low)
+
+  -- all branches are passed
+  pub branch-over : dataCount c ≤ p .symbol → p .symbol ≡ dataCount c
+  branch-over h = omega (arith, number, mul-le-mul-right (c .k) (w .within))
+
+module _ {c : Code} {p : Place} (t : TableLimits c) (w : InBranch c p) where
+  abbrev r : ℕ
+  r = w .branch
+
+  -- a symbol is next
+  pub in-placed : p .symbol < p .end → Placed c p
+  in-placed h =
+      let i : ℕ = p .symbol - r * c .k in
+      let l : i < c .k = omega (arith, w .start-is, w .end-is, w .low) in
+      let e : p .symbol ≡ r * c .k + i = omega (arith, w .start-is, w .low) in
+      let d : p .symbol / c .k ≡ r = ap (λ (x : ℕ). x / c .k) e ∙ digits-div r {m = c .k} l in
+      record {
+        inside = omega (arith, e, branch-inside c r (w .inside));
+        here = place-by (p .symbol) (w .start-is ∙ ap (λ (x : ℕ). x * c .k) (sym d)) (w .end-is ∙ ap (λ (x : ℕ). x * c .k + c .k) (sym d))
+            (w .first-is ∙ ap (λ (x : ℕ). x * checksEach c) (sym d)) (w .last-is ∙ ap (λ (x : ℕ). x * checksEach c + checksEach c) (sym d));
+      }
+
+  pub in-along : p .symbol < p .end → (q : Place) → q ≡ alongPlace p → InBranch c q
+  in-along h q e = rw e (record {
+    branch = r;
+    inside = w .inside;
+    start-is = w .start-is;
+    end-is = w .end-is;
+    first-is = w .first-is;
+    last-is = w .last-is;
+    low = omega (arith, w .low);
+    high = omega arith;
+  })
+
+  -- its symbols are passed
+  pub in-onward : p .end ≤ p .symbol → (q : Place) → q ≡ onwardPlace (c .k) p → AtBranch c q
+  in-onward h q e =
+      let s : p .symbol ≡ r * c .k + c .k = omega (arith, w .end-is, w .high) in
+      let y : suc r * c .k ≡ r * c .k + c .k = omega arith in
+      let z : suc r * checksEach c ≡ r * checksEach c + checksEach c = omega arith in
+      record {
+        branch = suc r;
+        within = w .inside;
+        here = e ∙ (λ o. record {
+          symbol = (s ∙ sym y) o;
+          start = (w .end-is ∙ sym y) o;
+          end = (let x : p .end + c .k ≡ suc r * c .k + c .k = omega (arith, w .end-is, y) in x) o;
+          first = (w .last-is ∙ sym z) o;
+          last = (let x : p .last + (p .last - p .first) ≡ suc r * checksEach c + checksEach c = omega (arith, w .first-is, w .last-is, z) in x) o;
+        });
+      }
+
+  -- what the step into the next branch asks
+  pub onward-fits : (c .k ≤ 4096) × (p .end ≤ 8192) × (p .first ≤ p .last) × (p .last ≤ 256)
+  onward-fits =
+      let s = t .sizes in (
+        s .k-high,
+        omega (arith, w .end-is, branch-inside c r (w .inside), s .data-high),
+        omega (arith, w .first-is, w .last-is),
+        omega (arith, w .last-is, run-inside c s r (w .inside), s .runs, s .J-high, mul-le-mul-right (checksEach c) (s .b-high)),
+      )
 
 -- what a place is good for: its run, and the checks there
 pub record Found (c : Code) (s : List ℕ) (p : Place) : Type 0 where

@@ -7,7 +7,7 @@ ghost use lib.ListN.{length};
 ghost use Rattle.model.specs.Code.{checksBy};
 ghost use Rattle.model.specs.Symbols.{Below, count, symbolsAt, subtractAt};
 ghost use Rattle.checks.specs.Checks.{AtChecks, estimatesBy};
-ghost use Rattle.checks.specs.Places.{nextPlace};
+ghost use Rattle.checks.specs.Places.{alongPlace, onwardPlace, nextPlace};
 
 // Where a data symbol stands: its number; its branch, which is the data symbols from `start` to before `end`; and the run of that
 // branch, which is the positions of the table from `first` to before `last`.
@@ -33,28 +33,44 @@ impl Place {
         }
     }
 
-    // The next data symbol: of the same branch, or the first of the next branch.
-    pub fn next(self, k: usize) -> Self
-        requires { ⌜ (k ≤ 4096) × (self .symbol < 4096) × (self .end ≤ 8192) × (self .first ≤ self .last) × (self .last ≤ 256) ⌝ }
-        ensures { λ r. ⌜ r ≡ nextPlace k self ⌝ }
+    // The next symbol number, in the same branch.
+    pub fn along(self) -> Self
+        requires { ⌜ self .symbol < 4096 ⌝ }
+        ensures { λ r. ⌜ r ≡ alongPlace self ⌝ }
     {
-        let symbol = self.symbol + 1;
-        if symbol == self.end {
-            return Place {
-                symbol,
-                start: self.end,
-                end: self.end + k,
-                first: self.last,
-                last: self.last + (self.last - self.first),
-            };
-        }
         Place {
-            symbol,
+            symbol: self.symbol + 1,
             start: self.start,
             end: self.end,
             first: self.first,
             last: self.last,
         }
+    }
+
+    // The same symbol number, in the next branch.
+    pub fn onward(self, k: usize) -> Self
+        requires { ⌜ (k ≤ 4096) × (self .end ≤ 8192) × (self .first ≤ self .last) × (self .last ≤ 256) ⌝ }
+        ensures { λ r. ⌜ r ≡ onwardPlace k self ⌝ }
+    {
+        Place {
+            symbol: self.symbol,
+            start: self.end,
+            end: self.end + k,
+            first: self.last,
+            last: self.last + (self.last - self.first),
+        }
+    }
+
+    // The next data symbol: of the same branch, or the first of the next branch.
+    pub fn next(self, k: usize) -> Self
+        requires { ⌜ (k ≤ 4096) × (self .symbol < 4096) × (self .end ≤ 8192) × (self .first ≤ self .last) × (self .last ≤ 256) ⌝ }
+        ensures { λ r. ⌜ r ≡ nextPlace k self ⌝ }
+    {
+        let on = self.along();
+        if on.symbol == on.end {
+            return on.onward(k);
+        }
+        on
     }
 }
 

@@ -51,6 +51,26 @@ pub visits-suc : (c : Code) (t n m : ℕ) (p : Progress) → m ≡ n + 1 → vis
 unfolding visits
 visits-suc c t n m p e = ap (λ (i : ℕ). visits c t i p) (e ∙ add-one n)
 
+-- n visits of a pass from symbol j on
+unfoldable pub visitsFrom : Code → ℕ → ℕ → ℕ → Progress → Progress
+visitsFrom c t j zero p = p
+visitsFrom c t j (suc n) p = visitOf c (record { symbol = j + n; threshold = t }) (visitsFrom c t j n p)
+
+pub from-none : (c : Code) (t j n : ℕ) (p : Progress) → n ≡ 0 → p ≡ visitsFrom c t j n p
+unfolding visitsFrom
+from-none c t j n p e = rw e refl
+
+pub from-suc : (c : Code) (t j n m : ℕ) (p : Progress) → m ≡ n + 1 → (i : ℕ) → i ≡ j + n
+    → visitsFrom c t j m p ≡ visitOf c (record { symbol = i; threshold = t }) (visitsFrom c t j n p)
+unfolding visitsFrom
+from-suc c t j n m p e i h = rw (h, e, add-one n) refl
+
+-- they follow the visits before j
+pub visits-from : (c : Code) (t j n m : ℕ) (p : Progress) → m ≡ j + n → visitsFrom c t j n (visits c t j p) ≡ visits c t m p
+unfolding visitsFrom
+visits-from c t j zero m p e = ap (λ (i : ℕ). visits c t i p) (let z : j ≡ m = omega arith in z)
+visits-from c t j (suc n) m p e = ap (visitOf c _) (visits-from c t j n (j + n) p refl) ∙ sym (visits-suc c t (j + n) m p (omega arith))
+
 visits-pass : (c : Code) (t n : ℕ) (p : Progress)
     → visits c t n p ≡ record {
       state = after (c .q) (checksOf c) (pass (tabulate n (λ j. j)) t) (p .state);

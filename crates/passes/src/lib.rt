@@ -80,18 +80,21 @@ fn run_counted(
         let threshold = thresholds[p];
         let mut place = Place::opening(code.k, each);
         while place.symbol < symbols {
-            tally = visits::visit(
-                code,
-                positions,
-                place,
-                threshold,
-                result,
-                syndrome,
-                difference,
-                zeros,
-                tally,
-            );
-            place = place.next(code.k);
+            while place.symbol < place.end {
+                tally = visits::visit(
+                    code,
+                    positions,
+                    place,
+                    threshold,
+                    result,
+                    syndrome,
+                    difference,
+                    zeros,
+                    tally,
+                );
+                place = place.along();
+            }
+            place = place.onward(code.k);
         }
         count += 1;
         p += 1;

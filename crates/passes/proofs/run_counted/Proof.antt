@@ -1,22 +1,36 @@
--- `run_counted`: in a pass the state is that after the visits to the symbols before its place; between passes those left give what the whole run gives, with at most 4,096 changes a pass.
+-- `run_counted`: in a pass, and in each branch of it, the state is that after the visits to the symbols before its place; between passes those left give what the whole run gives, with at most 4,096 changes a pass.
 use mathlib.Core.Path.{_≡_, refl, sym, _∙_, ap}
 use mathlib.Core.Logic.{⊎-elim}
 use mathlib.Core.List.{List, []}
 use Prim.Native.Nat.{ℕ, _≤_, _<_, _+_, _-_, _*_}
 use native.Mathlib.Omega.{arith}
-use lib.ListN.{length, drop, drop-of-length-le}
+use lib.ListN.{length, getD, drop, drop-of-length-le}
 use Rattle.model.specs.Code.{Code, dataCount}
 use Rattle.params.specs.Codes.{codeBy}
-use Rattle.checks.specs.Places.{Walk, walk-first, walk-placed, walk-next, walk-over, found, next-fits}
+use Rattle.checks.specs.Places.{InBranch, AtBranch, branch-first, branch-next, branch-some, branch-over, Placed, in-placed, in-along, in-onward, onward-fits}
+use Rattle.checks.specs.declared.Place.{Place}
 use Rattle.zeros.specs.Counts.{zeroCounts, length-zeroCounts}
 use Rattle.visits.specs.Progress.{Progress, progress, visitOf, Ready, at-table}
-use Rattle.passes.specs.Runs.{visits, passesFrom, runOf, Kept, kept-by, visits-suc, passes-nil, pass-idle, pass-changed}
+use Rattle.passes.specs.Runs.{visits, visitsFrom, from-none, from-suc, visits-from, passesFrom, runOf, Kept, kept-by, passes-nil, pass-idle, pass-changed}
 use Rattle.passes.proofs.run_counted.Statement.{statement}
 use Rattle.passes.proofs.run_counted.Tie as tie
 
+abbrev Inv-loop3 : tie.InvT-loop3
+Inv-loop3 code positions thresholds result₀ syndrome₀ difference₀ zeros₀ n symbols each tally₀ p count before threshold place₀ result syndrome difference zeros tally place =
+    InBranch (codeBy code positions) place
+    × (place .end ≡ place₀ .end)
+    × (place₀ .symbol ≤ place .symbol)
+    × (progress result syndrome difference tally
+    ≡ visitsFrom (codeBy code positions) threshold (place₀ .symbol) (place .symbol - place₀ .symbol) (progress result₀ syndrome₀ difference₀ tally₀))
+    × (zeros ≡ zeroCounts (codeBy code positions) syndrome)
+
+abbrev μ-loop3 : tie.MeasureT-loop3
+μ-loop3 code positions thresholds result₀ syndrome₀ difference₀ zeros₀ n symbols each tally₀ p count before threshold place₀ result syndrome difference zeros tally place =
+    place .end - place .symbol
+
 abbrev Inv-loop2 : tie.InvT-loop2
 Inv-loop2 code positions thresholds result₀ syndrome₀ difference₀ zeros₀ n symbols each tally₀ p count before threshold place₀ result syndrome difference zeros tally place =
-    Walk (codeBy code positions) place
+    AtBranch (codeBy code positions) place
     × (progress result syndrome difference tally ≡ visits (codeBy code positions) threshold (place .symbol) (progress result₀ syndrome₀ difference₀ tally₀))
     × (zeros ≡ zeroCounts (codeBy code positions) syndrome)
 
@@ -38,128 +52,185 @@ abbrev μ-loop : tie.MeasureT-loop
 
 -- ---- the places: the start and the outer loop, seen from the loops
 
-abbrev start : tie.At-loop Inv-loop2 μ-loop2 Inv-loop μ-loop → tie.Start Inv-loop2 μ-loop2 Inv-loop μ-loop
+abbrev start : tie.At-loop Inv-loop3 μ-loop3 Inv-loop2 μ-loop2 Inv-loop μ-loop → tie.Start Inv-loop3 μ-loop3 Inv-loop2 μ-loop2 Inv-loop μ-loop
 start c = c .before .before .before .before .before .before .before .before .before
 
-abbrev outer : tie.At-loop2 Inv-loop2 μ-loop2 Inv-loop μ-loop → tie.At-loop Inv-loop2 μ-loop2 Inv-loop μ-loop
+abbrev outer : tie.At-loop2 Inv-loop3 μ-loop3 Inv-loop2 μ-loop2 Inv-loop μ-loop → tie.At-loop Inv-loop3 μ-loop3 Inv-loop2 μ-loop2 Inv-loop μ-loop
 outer c = c .before .before .before .before
 
-abbrev codeAt : tie.At-loop Inv-loop2 μ-loop2 Inv-loop μ-loop → Code
+abbrev codeAt : tie.At-loop Inv-loop3 μ-loop3 Inv-loop2 μ-loop2 Inv-loop μ-loop → Code
 codeAt c = codeBy (start c .args .code) (start c .args .positions .now)
 
 -- the state and the tally at the start, in the outer loop, and in the inner one
-abbrev at-start : tie.At-loop Inv-loop2 μ-loop2 Inv-loop μ-loop → Progress
+abbrev at-start : tie.At-loop Inv-loop3 μ-loop3 Inv-loop2 μ-loop2 Inv-loop μ-loop → Progress
 at-start c = let a = start c .args in progress (a .result .now) (a .syndrome .now) (a .difference .now) (a .opened)
 
-abbrev between : tie.At-loop Inv-loop2 μ-loop2 Inv-loop μ-loop → Progress
+abbrev between : tie.At-loop Inv-loop3 μ-loop3 Inv-loop2 μ-loop2 Inv-loop μ-loop → Progress
 between c = progress (c .loop .result) (c .loop .syndrome) (c .loop .difference) (c .loop .tally)
 
-abbrev within : tie.At-loop2 Inv-loop2 μ-loop2 Inv-loop μ-loop → Progress
+abbrev within : tie.At-loop2 Inv-loop3 μ-loop3 Inv-loop2 μ-loop2 Inv-loop μ-loop → Progress
 within c = progress (c .loop2 .result) (c .loop2 .syndrome) (c .loop2 .difference) (c .loop2 .tally)
 
+abbrev inner : tie.At-loop3 Inv-loop3 μ-loop3 Inv-loop2 μ-loop2 Inv-loop μ-loop → Progress
+inner c = progress (c .loop3 .result) (c .loop3 .syndrome) (c .loop3 .difference) (c .loop3 .tally)
+
+-- the loop over branches, seen from the loop over the symbols of one
+abbrev branches : tie.At-loop3 Inv-loop3 μ-loop3 Inv-loop2 μ-loop2 Inv-loop μ-loop → tie.At-loop2 Inv-loop3 μ-loop3 Inv-loop2 μ-loop2 Inv-loop μ-loop
+branches c = c .before .before .before
+
 -- what the visits of a pass keep
-kept : (c : tie.At-loop2 Inv-loop2 μ-loop2 Inv-loop μ-loop) → Kept (codeAt (outer c)) (c .loop2 .place .symbol) (between (outer c)) (within c)
+kept : (c : tie.At-loop2 Inv-loop3 μ-loop3 Inv-loop2 μ-loop2 Inv-loop μ-loop) → Kept (codeAt (outer c)) (c .loop2 .place .symbol) (between (outer c)) (within c)
 kept c = kept-by _ _ _ _ _ (outer c .loop .inv .3 .ready) (c .loop2 .inv .1)
 
 -- ---- the needs
 
-data-count-requires : tie.Need-data-count-requires Inv-loop2 μ-loop2 Inv-loop μ-loop
+data-count-requires : tie.Need-data-count-requires Inv-loop3 μ-loop3 Inv-loop2 μ-loop2 Inv-loop μ-loop
 data-count-requires c κs = let p = c .before .before .before .before .before .before .pre in omega (arith, p .0 .usable .table .sizes .data-high)
 
-checks-each-requires : tie.Need-checks-each-requires Inv-loop2 μ-loop2 Inv-loop μ-loop
+checks-each-requires : tie.Need-checks-each-requires Inv-loop3 μ-loop3 Inv-loop2 μ-loop2 Inv-loop μ-loop
 checks-each-requires c κs = c .before .before .before .before .before .before .before .pre .0 .usable .table .sizes .b-low
 
-loop-holds : tie.Need-loop-holds Inv-loop2 μ-loop2 Inv-loop μ-loop
+loop-holds : tie.Need-loop-holds Inv-loop3 μ-loop3 Inv-loop2 μ-loop2 Inv-loop μ-loop
 loop-holds c =
     let p = c .before .before .before .before .before .before .before .before .pre in
     (omega arith, omega arith, p .3, record { ready = p .0; few = omega arith }, refl)
 
-shared-slice-read-threshold : tie.Need-shared-slice-read-threshold Inv-loop2 μ-loop2 Inv-loop μ-loop
+shared-slice-read-threshold : tie.Need-shared-slice-read-threshold Inv-loop3 μ-loop3 Inv-loop2 μ-loop2 Inv-loop μ-loop
 shared-slice-read-threshold c = omega arith
 
-opening-requires : tie.Need-opening-requires Inv-loop2 μ-loop2 Inv-loop μ-loop
+opening-requires : tie.Need-opening-requires Inv-loop3 μ-loop3 Inv-loop2 μ-loop2 Inv-loop μ-loop
 opening-requires c κs = tt
 
-loop2-holds : tie.Need-loop2-holds Inv-loop2 μ-loop2 Inv-loop μ-loop
+loop2-holds : tie.Need-loop2-holds Inv-loop3 μ-loop3 Inv-loop2 μ-loop2 Inv-loop μ-loop
 unfolding visits
 loop2-holds c =
     let l = c .before .before .before in
     let e = c .opening .ensures in
-    (walk-first (codeAt l) (start l .pre .0 .usable .table) _ _ (l .before .checks-each .ensures) e, rw e refl, l .loop .inv .2)
+    (branch-first (codeAt l) _ _ (l .before .checks-each .ensures) e, rw e refl, l .loop .inv .2)
 
--- a symbol is next, where the inner loop goes on
-next-symbol : (c : tie.Then2 Inv-loop2 μ-loop2 Inv-loop μ-loop) → c .before .before .loop2 .place .symbol < dataCount (codeAt (outer (c .before .before)))
-next-symbol c = let l = outer (c .before .before) in omega (arith, l .before .before .data-count .ensures, c .if2 .taken)
-
--- all are visited, where it ends
-all-visited : (c : tie.Else2 Inv-loop2 μ-loop2 Inv-loop μ-loop) → c .before .before .loop2 .place .symbol ≡ dataCount (codeAt (outer (c .before .before)))
-all-visited c =
-    let i = c .before .before in
-    walk-over (i .loop2 .inv .0) (omega (arith, outer i .before .before .data-count .ensures, c .if2 .left))
-
--- the changes stay far below what a tally can hold
-few-changes : (c : tie.Then2 Inv-loop2 μ-loop2 Inv-loop μ-loop) → c .before .before .loop2 .tally .changes < 4294967295
-few-changes c =
+-- a branch is next, where the loop over branches goes on
+next-branch : (c : tie.Then2 Inv-loop3 μ-loop3 Inv-loop2 μ-loop2 Inv-loop μ-loop) → InBranch (codeAt (outer (c .before .before))) (c .before .before .loop2 .place)
+next-branch c =
     let i = c .before .before in
     let l = outer i in
-    let k = kept i in
-    omega (arith, next-symbol c, k .few, l .loop .inv .3 .few, k .ready .usable .table .sizes .data-high, start l .pre .1, start l .pre .2, i .before .before .before .if1 .left)
+    branch-next (start l .pre .0 .usable .table) (i .loop2 .inv .0) (omega (arith, l .before .before .data-count .ensures, c .if2 .taken))
 
-visit-requires : tie.Need-visit-requires Inv-loop2 μ-loop2 Inv-loop μ-loop
+-- all are visited, where it ends
+all-visited : (c : tie.Else2 Inv-loop3 μ-loop3 Inv-loop2 μ-loop2 Inv-loop μ-loop) → c .before .before .loop2 .place .symbol ≡ dataCount (codeAt (outer (c .before .before)))
+all-visited c =
+    let i = c .before .before in
+    let l = outer i in
+    branch-over (start l .pre .0 .usable .table) (i .loop2 .inv .0) (omega (arith, l .before .before .data-count .ensures, c .if2 .left))
+
+loop3-holds : tie.Need-loop3-holds Inv-loop3 μ-loop3 Inv-loop2 μ-loop2 Inv-loop μ-loop
+loop3-holds c = (next-branch c, refl, omega arith, from-none _ _ _ _ _ (omega arith), c .before .before .loop2 .inv .2)
+
+-- the visits of the pass, those of the branch included, and what they keep
+made : (c : tie.At-loop3 Inv-loop3 μ-loop3 Inv-loop2 μ-loop2 Inv-loop μ-loop)
+    → let l = outer (branches c) in inner c ≡ visits (codeAt l) (getD (start l .args .thresholds .now) (l .loop .p) 0) (c .loop3 .place .symbol) (between l)
+made c =
+    let i = branches c in
+    c .loop3 .inv .3 ∙ ap (visitsFrom _ _ _ _) (i .loop2 .inv .1) ∙ visits-from _ _ _ _ _ _ (omega (arith, c .loop3 .inv .2))
+
+kept-in : (c : tie.At-loop3 Inv-loop3 μ-loop3 Inv-loop2 μ-loop2 Inv-loop μ-loop)
+    → Kept (codeAt (outer (branches c))) (c .loop3 .place .symbol) (between (outer (branches c))) (inner c)
+kept-in c = kept-by _ _ _ _ _ (outer (branches c) .loop .inv .3 .ready) (made c)
+
+-- a symbol is next, where the inner loop goes on
+placed : (c : tie.Then3 Inv-loop3 μ-loop3 Inv-loop2 μ-loop2 Inv-loop μ-loop) → Placed (codeAt (outer (branches (c .before .before)))) (c .before .before .loop3 .place)
+placed c =
+    let i = c .before .before in
+    in-placed (kept-in i .ready .usable .table) (i .loop3 .inv .0) (c .if3 .taken)
+
+-- the changes stay far below what a tally can hold
+few-changes : (c : tie.Then3 Inv-loop3 μ-loop3 Inv-loop2 μ-loop2 Inv-loop μ-loop) → c .before .before .loop3 .tally .changes < 4294967295
+few-changes c =
+    let i = c .before .before in
+    let l = outer (branches i) in
+    let k = kept-in i in
+    omega (arith, placed c .inside, k .few, l .loop .inv .3 .few, k .ready .usable .table .sizes .data-high, start l .pre .1, start l .pre .2, branches i .before .before .before .if1 .left)
+
+visit-requires : tie.Need-visit-requires Inv-loop3 μ-loop3 Inv-loop2 μ-loop2 Inv-loop μ-loop
 visit-requires c κs =
     let t = c .before .before .before .before in
-    let l = t .before .before in
-    (kept l .ready, walk-placed (l .loop2 .inv .0) (next-symbol t), few-changes t, l .loop2 .inv .2)
+    let i = t .before .before in
+    (kept-in i .ready, placed t, few-changes t, i .loop3 .inv .4)
 
-next-requires : tie.Need-next-requires Inv-loop2 μ-loop2 Inv-loop μ-loop
-next-requires c κs =
+along-requires : tie.Need-along-requires Inv-loop3 μ-loop3 Inv-loop2 μ-loop2 Inv-loop μ-loop
+along-requires c κs =
     let t = c .before .before .before .before .before .before .before .before .before .before .before .before .before in
-    let l = t .before .before in
-    let k = kept l in
-    let w = walk-placed (l .loop2 .inv .0) (next-symbol t) in
-    next-fits (k .ready .usable .table) w (found (at-table _ _ (k .ready)) w)
+    omega (arith, placed t .inside, kept-in (t .before .before) .ready .usable .table .sizes .data-high)
 
--- the next place
-next-place : (c : tie.After-next Inv-loop2 μ-loop2 Inv-loop μ-loop)
-    → (c .next .result .symbol ≡ c .before .before .before .before .before .before .before .before .before .before .before .before .before .before .before .before .loop2 .place .symbol + 1) × Walk (codeAt (outer (c .before .before .before .before .before .before .before .before .before .before .before .before .before .before .before .before))) (c .next .result)
-next-place c =
+loop3-less : tie.Need-loop3-less Inv-loop3 μ-loop3 Inv-loop2 μ-loop2 Inv-loop μ-loop
+loop3-less c =
+    let e = c .along .ensures in
+    omega (arith, ap (λ (x : Place). x .symbol) e, ap (λ (x : Place). x .end) e, c .before .before .before .before .before .before .before .before .before .before .before .before .before .before .if3 .taken)
+
+loop3-again : tie.Need-loop3-again Inv-loop3 μ-loop3 Inv-loop2 μ-loop2 Inv-loop μ-loop
+loop3-again c =
     let t = c .before .before .before .before .before .before .before .before .before .before .before .before .before .before in
-    let l = t .before .before in
-    walk-next (l .loop2 .inv .0) (kept l .ready .usable .table) (next-symbol t) _ (c .next .ensures)
-
-loop2-less : tie.Need-loop2-less Inv-loop2 μ-loop2 Inv-loop μ-loop
-loop2-less c =
-    let t = c .before .before .before .before .before .before .before .before .before .before .before .before .before .before in
-    omega (arith, next-place c .0, next-symbol t, outer (t .before .before) .before .before .data-count .ensures)
-
-loop2-again : tie.Need-loop2-again Inv-loop2 μ-loop2 Inv-loop μ-loop
-loop2-again c =
-    let l = c .before .before .before .before .before .before .before .before .before .before .before .before .before .before .before .before in
+    let i = t .before .before in
     let e = c .before .before .before .before .before .before .before .before .before .visit .ensures in
-    let n = next-place c in
-    (n .1, e .0 ∙ ap (visitOf _ _) (l .loop2 .inv .1) ∙ sym (visits-suc _ _ _ _ _ (n .0)), e .1)
+    let o = c .along .ensures in
+    let n : c .along .result .symbol ≡ i .loop3 .place .symbol + 1 = ap (λ (x : Place). x .symbol) o in
+    let low = i .loop3 .inv .2 in (
+      in-along (kept-in i .ready .usable .table) (i .loop3 .inv .0) (t .if3 .taken) _ o,
+      ap (λ (x : Place). x .end) o ∙ i .loop3 .inv .1,
+      omega (arith, n, low),
+      e .0 ∙ ap (visitOf _ _) (i .loop3 .inv .3) ∙ sym (from-suc _ _ _ _ _ _ (omega (arith, n, low)) _ (omega (arith, low))),
+      e .1,
+    )
 
-add-count : tie.Need-add-count Inv-loop2 μ-loop2 Inv-loop μ-loop
+onward-requires : tie.Need-onward-requires Inv-loop3 μ-loop3 Inv-loop2 μ-loop2 Inv-loop μ-loop
+onward-requires c κs = let i = c .before .before in onward-fits (kept-in i .ready .usable .table) (i .loop3 .inv .0)
+
+loop2-less : tie.Need-loop2-less Inv-loop3 μ-loop3 Inv-loop2 μ-loop2 Inv-loop μ-loop
+loop2-less c =
+    let x = c .before in
+    let i = x .before .before in
+    let t = i .before in
+    let l = branches i in
+    omega (
+      arith,
+      ap (λ (y : Place). y .symbol) (c .onward .ensures),
+      x .if3 .left,
+      i .loop3 .inv .1,
+      branch-some (kept-in i .ready .usable .table) (l .loop2 .inv .0),
+      t .if2 .taken,
+    )
+
+loop2-again : tie.Need-loop2-again Inv-loop3 μ-loop3 Inv-loop2 μ-loop2 Inv-loop μ-loop
+loop2-again c =
+    let x = c .before in
+    let i = x .before .before in
+    let l = outer (branches i) in
+    let e = c .onward .ensures in (
+      in-onward (kept-in i .ready .usable .table) (i .loop3 .inv .0) (omega (arith, x .if3 .left)) _ e,
+      made i ∙ ap (λ (y : Place). visits (codeAt l) (getD (start l .args .thresholds .now) (l .loop .p) 0) (y .symbol) (between l)) (sym e),
+      i .loop3 .inv .4,
+    )
+
+add-count : tie.Need-add-count Inv-loop3 μ-loop3 Inv-loop2 μ-loop2 Inv-loop μ-loop
 add-count c = omega arith
 
-add-p : tie.Need-add-p Inv-loop2 μ-loop2 Inv-loop μ-loop
+add-p : tie.Need-add-p Inv-loop3 μ-loop3 Inv-loop2 μ-loop2 Inv-loop μ-loop
 add-p c = omega arith
 
-next-smaller-requires : tie.Need-next-smaller-requires Inv-loop2 μ-loop2 Inv-loop μ-loop
+next-smaller-requires : tie.Need-next-smaller-requires Inv-loop3 μ-loop3 Inv-loop2 μ-loop2 Inv-loop μ-loop
 next-smaller-requires c κs = omega arith
 
 -- what a whole pass keeps of the start
-pass-kept : (c : tie.Else2 Inv-loop2 μ-loop2 Inv-loop μ-loop)
+pass-kept : (c : tie.Else2 Inv-loop3 μ-loop3 Inv-loop2 μ-loop2 Inv-loop μ-loop)
     → let i = c .before .before in Kept (codeAt (outer i)) (4096 * (outer i .loop .count + 1)) (at-start (outer i)) (within i)
 pass-kept c =
     let k = kept (c .before .before) in
     record { ready = k .ready; few = omega (arith, all-visited c, k .few, outer (c .before .before) .loop .inv .3 .few, k .ready .usable .table .sizes .data-high) }
 
-loop-less : tie.Need-loop-less Inv-loop2 μ-loop2 Inv-loop μ-loop
+loop-less : tie.Need-loop-less Inv-loop3 μ-loop3 Inv-loop2 μ-loop2 Inv-loop μ-loop
 loop-less c = omega (arith, c .before .next-smaller .ensures .0)
 
 -- after an idle pass
-loop-again : tie.Need-loop-again Inv-loop2 μ-loop2 Inv-loop μ-loop
+loop-again : tie.Need-loop-again Inv-loop3 μ-loop3 Inv-loop2 μ-loop2 Inv-loop μ-loop
 loop-again c =
     let x = c .before .before .before .before in
     let l = x .before .before in
@@ -171,15 +242,15 @@ loop-again c =
       l .loop2 .inv .2,
       pass-kept x,
       ap (λ (ts : List ℕ). passesFrom (codeAt (outer l)) (o .count + 1) ts (within l)) (e .2)
-          ∙ sym (pass-idle (codeAt (outer l)) (o .count) (o .p) (l .loop2 .place .symbol) ths (between (outer l)) (within l) (omega arith) (all-visited x) (l .loop2 .inv .1) (omega (arith, c .before .before .if3 .taken)))
+          ∙ sym (pass-idle (codeAt (outer l)) (o .count) (o .p) (l .loop2 .place .symbol) ths (between (outer l)) (within l) (omega arith) (all-visited x) (l .loop2 .inv .1) (omega (arith, c .before .before .if4 .taken)))
           ∙ o .inv .4,
     )
 
-loop-less-2 : tie.Need-loop-less-2 Inv-loop2 μ-loop2 Inv-loop μ-loop
+loop-less-2 : tie.Need-loop-less-2 Inv-loop3 μ-loop3 Inv-loop2 μ-loop2 Inv-loop μ-loop
 loop-less-2 c = omega arith
 
 -- after a pass that changed something
-loop-again-2 : tie.Need-loop-again-2 Inv-loop2 μ-loop2 Inv-loop μ-loop
+loop-again-2 : tie.Need-loop-again-2 Inv-loop3 μ-loop3 Inv-loop2 μ-loop2 Inv-loop μ-loop
 loop-again-2 c =
     let x = c .before .before in
     let l = x .before .before in
@@ -188,7 +259,7 @@ loop-again-2 c =
       omega arith,
       l .loop2 .inv .2,
       pass-kept x,
-      sym (pass-changed (codeAt (outer l)) (o .count) (o .p) (l .loop2 .place .symbol) (start (outer l) .args .thresholds .now) (between (outer l)) (within l) (omega arith) (all-visited x) (l .loop2 .inv .1) (c .if3 .left))
+      sym (pass-changed (codeAt (outer l)) (o .count) (o .p) (l .loop2 .place .symbol) (start (outer l) .args .thresholds .now) (between (outer l)) (within l) (omega arith) (all-visited x) (l .loop2 .inv .1) (c .if4 .left))
           ∙ o .inv .4,
     )
 
@@ -214,7 +285,7 @@ left f r y d e g = record {
   ran = g;
 }
 
-done : (c : tie.Joined1 Inv-loop2 μ-loop2 Inv-loop μ-loop)
+done : (c : tie.Joined1 Inv-loop3 μ-loop3 Inv-loop2 μ-loop2 Inv-loop μ-loop)
     → Done (codeAt (c .before)) (start (c .before) .args .thresholds .now) (start (c .before) .args .zeros .now) (c .if1 .zeros) (at-start (c .before))
     (progress (c .if1 .result) (c .if1 .syndrome) (c .if1 .difference) (c .if1 .tally)) (c .if1 .passes)
 done c =
@@ -229,32 +300,32 @@ done c =
     (λ w. rw (w .10, w .11, w .12, w .13, w .14, w .17)
     (let i = w .3 in
     let x = progress (i .result) (i .syndrome) (i .difference) (i .tally) in
-    let h : i .place .symbol ≡ dataCount (codeAt b) = walk-over (i .inv .0) (omega (arith, b .before .before .data-count .ensures, w .5 .left)) in
+    let h : i .place .symbol ≡ dataCount (codeAt b) = branch-over (start b .pre .0 .usable .table) (i .inv .0) (omega (arith, b .before .before .data-count .ensures, w .5 .left)) in
     let over : length ths ≤ w .8 .result = omega (arith, w .9 .taken) in
     left (omega arith) (p .0) (kept-by _ _ _ _ _ (o .inv .3 .ready) (i .inv .1) .ready) (p .3) (i .inv .2)
     (ap (λ (l : List ℕ). passesFrom (codeAt b) (o .count + 1) l x) (sym (drop-of-length-le ths over) ∙ w .8 .ensures .2)
     ∙ sym (pass-idle (codeAt b) (o .count) (o .p) (i .place .symbol) ths (between b) x (omega arith) h (i .inv .1) (omega (arith, w .7 .taken))) ∙ o .inv .4)))
     (c .if1 .came)
 
-cast-passed : tie.Need-cast-passed Inv-loop2 μ-loop2 Inv-loop μ-loop
+cast-passed : tie.Need-cast-passed Inv-loop3 μ-loop3 Inv-loop2 μ-loop2 Inv-loop μ-loop
 cast-passed c = omega (arith, done (c .before) .few)
 
-passed-requires : tie.Need-passed-requires Inv-loop2 μ-loop2 Inv-loop μ-loop
+passed-requires : tie.Need-passed-requires Inv-loop3 μ-loop3 Inv-loop2 μ-loop2 Inv-loop μ-loop
 passed-requires c κs = tt
 
-same-length : tie.Need-same-length Inv-loop2 μ-loop2 Inv-loop μ-loop
+same-length : tie.Need-same-length Inv-loop3 μ-loop3 Inv-loop2 μ-loop2 Inv-loop μ-loop
 same-length c = done (c .before .before) .len-result
 
-same-length-2 : tie.Need-same-length-2 Inv-loop2 μ-loop2 Inv-loop μ-loop
+same-length-2 : tie.Need-same-length-2 Inv-loop3 μ-loop3 Inv-loop2 μ-loop2 Inv-loop μ-loop
 same-length-2 c = done (c .before .before) .len-syndrome
 
-same-length-3 : tie.Need-same-length-3 Inv-loop2 μ-loop2 Inv-loop μ-loop
+same-length-3 : tie.Need-same-length-3 Inv-loop3 μ-loop3 Inv-loop2 μ-loop2 Inv-loop μ-loop
 same-length-3 c = done (c .before .before) .len-difference
 
-same-length-4 : tie.Need-same-length-4 Inv-loop2 μ-loop2 Inv-loop μ-loop
+same-length-4 : tie.Need-same-length-4 Inv-loop3 μ-loop3 Inv-loop2 μ-loop2 Inv-loop μ-loop
 same-length-4 c = done (c .before .before) .len-zeros
 
-returns : tie.Need-returns Inv-loop2 μ-loop2 Inv-loop μ-loop
+returns : tie.Need-returns Inv-loop3 μ-loop3 Inv-loop2 μ-loop2 Inv-loop μ-loop
 unfolding runOf
 returns c = let d = done (c .before .before) in (rw (c .passed .ensures) (sym (passes-nil _ _ _) ∙ d .ran), d .counts)
 
@@ -262,6 +333,8 @@ pub run-counted-spec : {M : Type 1} → statement M
 run-counted-spec =
     tie.close
     (tie.spec
+    Inv-loop3
+    μ-loop3
     Inv-loop2
     μ-loop2
     Inv-loop
@@ -272,8 +345,12 @@ run-counted-spec =
     shared-slice-read-threshold
     opening-requires
     loop2-holds
+    loop3-holds
     visit-requires
-    next-requires
+    along-requires
+    loop3-less
+    loop3-again
+    onward-requires
     loop2-less
     loop2-again
     add-count

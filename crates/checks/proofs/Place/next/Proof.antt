@@ -1,29 +1,30 @@
 -- `next`: the branch goes on, or the next one starts.
 use borrow.Author.Needs.{needs}
-use borrow.Author.Tests.{eq-eqb, ne-eqb}
-use Rattle.checks.specs.Places.{nextPlace}
+use mathlib.Core.Path.{_∙_, ap}
+use native.Mathlib.Omega.{arith}
+use Rattle.checks.specs.Places.{next-onward, next-along}
+use Rattle.checks.specs.declared.Place.{Place}
 use Rattle.checks.proofs.Place.next.Statement.{statement}
 use Rattle.checks.proofs.Place.next.Tie as tie
 
-add-symbol : tie.Need-add-symbol
-add-symbol c = search needs
+along-requires : tie.Need-along-requires
+along-requires c κs = search needs
 
-add-t5 : tie.Need-add-t5
-add-t5 c = search needs
-
-sub-t6 : tie.Need-sub-t6
-sub-t6 c = search needs
-
-add-t7 : tie.Need-add-t7
-add-t7 c = search needs
+onward-requires : tie.Need-onward-requires
+onward-requires c κs =
+    let a = c .before .before in
+    let e = a .along .ensures in
+    let p = a .before .pre in
+    (p .0, omega (arith, ap (λ (x : Place). x .end) e, p .2), omega (arith, ap (λ (x : Place). x .first) e, ap (λ (x : Place). x .last) e, p .3), omega (arith, ap (λ (x : Place). x .last) e, p .4))
 
 returns : tie.Need-returns
-unfolding nextPlace
-returns c = simp (eq-eqb _ _ (c .before .before .before .if1 .taken))
+returns c =
+    let t = c .before in
+    let a = t .before .before in
+    c .onward .ensures ∙ next-onward _ _ _ (a .along .ensures) (t .if1 .taken)
 
 returns-2 : tie.Need-returns-2
-unfolding nextPlace
-returns-2 c = simp (ne-eqb _ _ (c .if1 .left))
+returns-2 c = next-along _ _ _ (c .before .before .along .ensures) (c .if1 .left)
 
 pub next-spec : {M : Type 1} → statement M
-next-spec = tie.close (tie.spec add-symbol add-t5 sub-t6 add-t7 returns returns-2)
+next-spec = tie.close (tie.spec along-requires onward-requires returns returns-2)
