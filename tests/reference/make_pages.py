@@ -217,14 +217,15 @@ def clean(pages, random):
         positions = positions_for(random, k, j)
         data = random.symbols(q, k)
         got = pages.decode(q, k, 1, ref.table_of(positions), ref.code_word(q, k, [positions], data), thresholds, expect=0)
-        assert got.result == data and got.counts == (1, 0, 0, 0)
+        assert got.result == data and got.counts == (len(ref.strict_minima(thresholds)), 0, 0, 0)
 
 
 @group("decode, damage inside the bound")
 def inside(pages, random):
-    """As many symbols replaced as the bound allows, 2t + T1 <= J; the thresholds after the first are free."""
+    """As many symbols replaced as the first threshold alone allows; the others are free. The groups of schedules have as
+    many as the smallest allows."""
     def inside(q, k, positions, thresholds, places):
-        assert 2 * len(places) + thresholds[0] <= len(positions)
+        assert 2 * len(places) + min(thresholds) <= len(positions)
         data = random.symbols(q, k)
         page = damaged(random, q, ref.code_word(q, k, [positions], data), places)
         got = pages.decode(q, k, 1, ref.table_of(positions), page, thresholds, expect=0)
@@ -438,7 +439,8 @@ def threshold_lists(pages, random):
         page = ref.code_word(q, k, [positions], random.symbols(q, k))
         page = damaged(random, q, page, random.some(range(k), 4))
         pages.decode(q, k, 1, ref.table_of(positions), page, thresholds, expect=0)
-    # Many passes: the thresholds used up, and an idle pass that is the last of the list or the one before it.
+    # Many passes: the thresholds used up, and an idle pass, with no smaller one after it, that is the last of the list or
+    # the one before it.
     table = ref.table_of([0, 1, 100, 300])
     for length, count, passes, changes in ((70, 64, 64, 64), (63, 64, 64, 63), (62, 64, 63, 62), (30, 20, 20, 20)):
         page = chain(random, length)
@@ -814,14 +816,15 @@ def branches_clean(pages, random):
         runs = runs_for(random, k, b, j)
         data = random.symbols(q, b * k)
         got = pages.decode(q, k, b, ref.table_of(*runs), ref.code_word(q, k, runs, data), thresholds, expect=0)
-        assert got.result == data and got.counts == (1, 0, 0, 0)
+        assert got.result == data and got.counts == (len(ref.strict_minima(thresholds)), 0, 0, 0)
 
 
 @group("branches, decode, damage inside the bound")
 def branches_inside(pages, random):
-    """As many symbols replaced as the bound allows, in every branch as far as they go; the data comes back."""
+    """As many symbols replaced as the first threshold alone allows, in every branch as far as they go; the data comes
+    back."""
     def inside(q, k, runs, thresholds, places):
-        assert 2 * len(places) + thresholds[0] <= len(runs[0])
+        assert 2 * len(places) + min(thresholds) <= len(runs[0])
         data = random.symbols(q, len(runs) * k)
         page = damaged(random, q, ref.code_word(q, k, runs, data), places)
         got = pages.decode(q, k, len(runs), ref.table_of(*runs), page, thresholds, expect=0)
