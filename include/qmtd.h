@@ -165,7 +165,8 @@ uint32_t qmtd_syndrome(uint32_t q, uint32_t k, uint32_t b, const uint8_t *table,
  *               A visit with threshold T would change nothing at j where the margin is -T or more. A margin, like
  *               QMTD_OK, does not say that the symbol is the one sent.
  *   counts      written whole: 16 bytes, four 32-bit numbers, low byte first:
- *                 bytes  0 to  3  passes run, idle ones included, skipped ones not
+ *                 bytes  0 to  3  passes run, idle ones included, skipped ones not; on a page at distance 0 one for
+ *                                 each threshold that is smaller than all before it in the list
  *                 bytes  4 to  7  changes
  *                 bytes  8 to 11  distance at the start
  *                 bytes 12 to 15  distance at the end
