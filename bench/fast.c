@@ -486,21 +486,29 @@ uint32_t CALL(decode)(uint32_t q, uint32_t k, uint32_t b, const uint8_t *table, 
     memset(difference, 0, n);
     work_out_syndrome(q, k, &branches, page, syndrome);
 
-    /* A page at distance 0 needs no visits: its one pass changes nothing, and every estimate is 0. */
-    uint32_t start = weight(syndrome, k), end = 0, passes = 1, changes = 0;
+    /* A pass is run where its threshold is below the limit: that of the pass before it, if this was idle, else none. A
+     * page at distance 0 needs no visits: no pass changes anything, and every estimate is 0. */
+    uint32_t start = weight(syndrome, k), end = 0, passes = 0, changes = 0, limit = QMTD_MAX_THRESHOLD + 1;
     if (start > 0) {
         uint8_t votes[256] = {0};
-        for (passes = 0; passes < thresholds_len;) {
-            uint32_t threshold = thresholds[passes++];
+        for (size_t i = 0; i < thresholds_len; i++) {
+            uint32_t threshold = thresholds[i];
+            if (threshold >= limit)
+                continue;
             uint32_t more = pass((uint8_t)q, k, &branches, threshold, votes, result, syndrome, difference);
             changes += more;
-            if (more == 0)
-                break;
+            passes++;
+            limit = more == 0 ? threshold : QMTD_MAX_THRESHOLD + 1;
         }
         end = weight(syndrome, k) + weight(difference, n);
         for (size_t r = 0; r < b; r++)
             write_margins(k, &branches.of[r], votes, syndrome, difference + r * k, margins + 4 * r * k);
     } else {
+        for (size_t i = 0; i < thresholds_len; i++)
+            if (thresholds[i] < limit) {
+                limit = thresholds[i];
+                passes++;
+            }
         fill_margins(margins, n, (uint32_t)branches.of[0].count + 1);
     }
 

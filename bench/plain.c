@@ -223,15 +223,19 @@ uint32_t CALL(decode)(uint32_t q, uint32_t k, uint32_t b, const uint8_t *table, 
     uint32_t start = nonzero(syndrome, k);
 
     uint32_t passes = 0, changes = 0;
-    while (passes < thresholds_len) {
-        uint32_t before = changes;
+    size_t place = 0;
+    while (place < thresholds_len) {
+        uint32_t before = changes, threshold = thresholds[place];
         for (uint32_t r = 0; r < b; r++)
             for (uint32_t symbol = 0; symbol < k; symbol++)
-                changes += (uint32_t)visit(q, k, run_of(table, j, r), j, symbol, thresholds[passes], result + r * k,
-                                           syndrome, difference + r * k);
+                changes += (uint32_t)visit(q, k, run_of(table, j, r), j, symbol, threshold, result + r * k, syndrome,
+                                           difference + r * k);
         passes++;
+        place++;
+        /* After an idle pass the first later one whose threshold is smaller. */
         if (changes == before)
-            break;
+            while (place < thresholds_len && thresholds[place] >= threshold)
+                place++;
     }
 
     for (uint32_t r = 0; r < b; r++)

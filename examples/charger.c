@@ -7,8 +7,8 @@
 #include <stdio.h>
 #include <string.h>
 
-/* The code: one branch of 13 data symbols of any byte value, positions 0, 1, 4, 6. J is 4, so with a first threshold of
- * 0 the data comes back whole from any page with at most 2 symbols replaced: 2 * 2 + 0 <= 4. */
+/* The code: one branch of 13 data symbols of any byte value, positions 0, 1, 4, 6. J is 4, and the smallest
+ * threshold is 0, so the data comes back whole from any page with at most 2 symbols replaced: 2 * 2 + 0 <= 4. */
 enum { Q = 256, K = 13, B = 1, J = 4 };
 static const uint8_t table[QMTD_TABLE_LEN(B, J)] = {0, 0, 1, 0, 4, 0, 6, 0};
 static const uint8_t thresholds[] = {0, 0, 0};

@@ -12,7 +12,7 @@
  * There are no convolutional codes, no soft decisions and no simulated channels. Decoding is no checksum: QMTD_OK says
  * that the decoder ran, not that its answer is what was sent. What is promised is this:
  *
- *   If at most t symbols of an encoded page were replaced and 2 * t + (first threshold) <= J,
+ *   If at most t symbols of an encoded page were replaced and 2 * t + (smallest threshold of the list) <= J,
  *   then the result is the data that was encoded.
  *
  * Beyond that bound every change brings the answer nearer to the received page, but not always to what was sent.
@@ -59,7 +59,7 @@ extern "C" {
 /* ---- Version ---- */
 
 #define QMTD_VERSION_MAJOR 0
-#define QMTD_VERSION_MINOR 3
+#define QMTD_VERSION_MINOR 5
 #define QMTD_VERSION_PATCH 0
 #define QMTD_VERSION_NUMBER (QMTD_VERSION_MAJOR * 10000 + QMTD_VERSION_MINOR * 100 + QMTD_VERSION_PATCH)
 
@@ -146,9 +146,12 @@ uint32_t qmtd_syndrome(uint32_t q, uint32_t k, uint32_t b, const uint8_t *table,
  * A pass visits data symbols 0 to b * k - 1 with one threshold T. A visit to j collects J + 1 estimates: the difference
  * at j and the syndrome at each check of j. When the commonest value is not 0 and leads the next by more than T votes,
  * it is subtracted from the result at j, from the difference at j and from the syndrome at each check of j: a change.
- * Decoding stops after the first pass without a change, or when the thresholds are used up.
+ * After a pass with a change comes the next in the list, whatever its threshold. After an idle pass, one without a
+ * change, comes the first later one in the list whose threshold is smaller than its own; those between are skipped.
+ * Decoding stops where there is no such pass, or at the list's end. A list may so start strict and end loose: 3, 2, 0.
  *   page        read: (b + 1) * k symbols
- *   thresholds  read: 1 to 64 thresholds of one byte each, from 0 to 32, one a pass in this order
+ *   thresholds  read: 1 to 64 thresholds of one byte each, from 0 to 32, one a pass in this order. The first pass with
+ *               the smallest threshold is always run, so where that stands in the list does not matter for the bound.
  *   result      written whole: b * k symbols, the decoded data
  *   syndrome    written whole: k symbols, the syndrome as the last visit left it
  *   difference  written whole: b * k symbols, result minus received data
@@ -162,7 +165,8 @@ uint32_t qmtd_syndrome(uint32_t q, uint32_t k, uint32_t b, const uint8_t *table,
  *               A visit with threshold T would change nothing at j where the margin is -T or more. A margin, like
  *               QMTD_OK, does not say that the symbol is the one sent.
  *   counts      written whole: 16 bytes, four 32-bit numbers, low byte first:
- *                 bytes  0 to  3  passes run, a last one without a change included
+ *                 bytes  0 to  3  passes run, idle ones included, skipped ones not; on a page at distance 0 one for
+ *                                 each threshold that is smaller than all before it in the list
  *                 bytes  4 to  7  changes
  *                 bytes  8 to 11  distance at the start
  *                 bytes 12 to 15  distance at the end

@@ -1,6 +1,7 @@
 /* boundary.c - what the reference pages cannot hold: null pointers, the length of the counts, names in the header, the
- * reading of a margin, every length of a table with every b, unaligned memory, and the promise that data comes back
- * from a page with few enough symbols replaced. */
+ * reading of a margin, every length of a table with every b, unaligned memory, which passes of a list are run on the
+ * page of case 7 and on clean ones, and the promise that data comes back from a page with few enough symbols
+ * replaced. */
 #include "qmtd.h"
 
 #include <stdio.h>
@@ -255,6 +256,37 @@ static void unaligned(void)
     }
 }
 
+/* Case 7 of document 01 with the numbers of request N4, and clean pages. After an idle pass comes the first later one
+ * whose threshold is smaller; the others are not counted. */
+static void falling_thresholds(void)
+{
+    static const struct {
+        uint8_t len, list[7], passes, changes;
+    } lists[] = {
+        {2, {3, 2}, 2, 1},           {3, {3, 3, 2}, 2, 1},          {1, {3}, 1, 0},
+        {2, {3, 4}, 1, 0},           {4, {4, 5, 3, 2}, 3, 1},       {3, {3, 2, 0}, 3, 1},
+        {5, {3, 2, 2, 2, 1}, 4, 1},  {5, {2, 3, 3, 1, 1}, 3, 1},    {7, {3, 2, 5, 4, 4, 3, 3}, 5, 1},
+    }, clean[] = {
+        {5, {3, 3, 2, 0, 0}, 3, 0},  {3, {0, 0, 0}, 1, 0},          {3, {1, 2, 3}, 1, 0},
+        {4, {2, 1, 2, 0}, 3, 0},     {7, {32, 31, 16, 8, 8, 9, 7}, 5, 0},
+    };
+    for (size_t i = 0; i < sizeof lists / sizeof lists[0]; i++) {
+        prepare();
+        page[0] = 7;
+        EXPECT(qmtd_decode(256, K, 1, table_a, sizeof table_a, page, sizeof page, lists[i].list, lists[i].len,
+                           result, K, syndrome, K, difference, K, margins, sizeof margins,
+                           counts, sizeof counts) == QMTD_OK);
+        EXPECT(result[0] == (lists[i].changes ? 0 : 7) && all(result + 1, K - 1, 0));
+        EXPECT(number_at(counts) == lists[i].passes && number_at(counts + 4) == lists[i].changes);
+        EXPECT(number_at(counts + 8) == 4 && number_at(counts + 12) == (lists[i].changes ? 1 : 4));
+    }
+    for (size_t i = 0; i < sizeof clean / sizeof clean[0]; i++) {
+        prepare();
+        EXPECT(decode(table_a, sizeof table_a, sizeof page, clean[i].list, clean[i].len, sizeof counts) == QMTD_OK);
+        EXPECT(number_at(counts) == clean[i].passes && all(counts + 4, 12, 0));
+    }
+}
+
 /* A small generator of our own, so that a failure can be had again. */
 static uint32_t below(uint32_t n)
 {
@@ -277,9 +309,9 @@ static int32_t margin_of(uint32_t k, const uint8_t *table, uint32_t j, const uin
     return votes[0] - most;
 }
 
-/* At most t of a page's symbols replaced, 2 * t + (first threshold) <= J: decode gives the data back, whatever the
- * later thresholds. The distance at the end is that of the page encoded from the result, and the margins are those of
- * the syndrome and the difference handed back. */
+/* At most t of a page's symbols replaced, 2 * t + (smallest threshold) <= J: decode gives the data back, wherever the
+ * smallest stands in the list and whatever the others are. The distance at the end is that of the page encoded from the
+ * result, and the margins are those of the syndrome and the difference handed back. */
 static void recovery_of(uint32_t q, uint32_t k, uint32_t b, const uint8_t *table, uint32_t j, int rounds)
 {
     static uint8_t sent[QMTD_MAX_DATA], back[QMTD_MAX_DATA], s[QMTD_MAX_K], d[QMTD_MAX_DATA];
@@ -291,20 +323,21 @@ static void recovery_of(uint32_t q, uint32_t k, uint32_t b, const uint8_t *table
             sent[i] = (uint8_t)below(q);
         EXPECT(qmtd_encode(q, k, b, table, table_len, sent, n, encoded, page_len) == QMTD_OK);
 
-        uint8_t list[4];
-        list[0] = (uint8_t)below(j + 1);
-        for (size_t i = 1; i < sizeof list; i++)
-            list[i] = (uint8_t)below(QMTD_MAX_THRESHOLD + 1);
+        uint8_t list[QMTD_MAX_THRESHOLDS];
+        uint32_t list_len = 1 + below(below(4) == 0 ? QMTD_MAX_THRESHOLDS : 4), smallest = below(j + 1);
+        for (uint32_t i = 0; i < list_len; i++)
+            list[i] = (uint8_t)(smallest + below(QMTD_MAX_THRESHOLD + 1 - smallest));
+        list[below(list_len)] = (uint8_t)smallest;
         uint32_t replaced = 0;
         memcpy(received, encoded, page_len);
-        for (uint32_t t = (j - list[0]) / 2; t > 0; t--)
+        for (uint32_t t = (j - smallest) / 2; t > 0; t--)
             received[below(page_len)] = (uint8_t)below(q);
         for (uint32_t i = 0; i < page_len; i++)
             replaced += received[i] != encoded[i];
 
         uint8_t c[QMTD_COUNTS_LEN];
-        EXPECT(qmtd_decode(q, k, b, table, table_len, received, page_len, list, 1 + below(sizeof list), back, n, s, k,
-                           d, n, m, QMTD_MARGINS_LEN(k, b), c, sizeof c) == QMTD_OK);
+        EXPECT(qmtd_decode(q, k, b, table, table_len, received, page_len, list, list_len, back, n, s, k, d, n,
+                           m, QMTD_MARGINS_LEN(k, b), c, sizeof c) == QMTD_OK);
         EXPECT(memcmp(back, sent, n) == 0);
         EXPECT(number_at(c + 12) == replaced);
 
@@ -408,6 +441,7 @@ int main(void)
     names();
     margin_bytes();
     unaligned();
+    falling_thresholds();
     branches();
     recovery();
     printf("%d failures\n", failures);

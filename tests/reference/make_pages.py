@@ -217,14 +217,15 @@ def clean(pages, random):
         positions = positions_for(random, k, j)
         data = random.symbols(q, k)
         got = pages.decode(q, k, 1, ref.table_of(positions), ref.code_word(q, k, [positions], data), thresholds, expect=0)
-        assert got.result == data and got.counts == (1, 0, 0, 0)
+        assert got.result == data and got.counts == (len(ref.strict_minima(thresholds)), 0, 0, 0)
 
 
 @group("decode, damage inside the bound")
 def inside(pages, random):
-    """As many symbols replaced as the bound allows, 2t + T1 <= J; the thresholds after the first are free."""
+    """As many symbols replaced as the first threshold alone allows; the others are free. The groups of schedules have as
+    many as the smallest allows."""
     def inside(q, k, positions, thresholds, places):
-        assert 2 * len(places) + thresholds[0] <= len(positions)
+        assert 2 * len(places) + min(thresholds) <= len(positions)
         data = random.symbols(q, k)
         page = damaged(random, q, ref.code_word(q, k, [positions], data), places)
         got = pages.decode(q, k, 1, ref.table_of(positions), page, thresholds, expect=0)
@@ -438,7 +439,8 @@ def threshold_lists(pages, random):
         page = ref.code_word(q, k, [positions], random.symbols(q, k))
         page = damaged(random, q, page, random.some(range(k), 4))
         pages.decode(q, k, 1, ref.table_of(positions), page, thresholds, expect=0)
-    # Many passes: the thresholds used up, and an idle pass that is the last of the list or the one before it.
+    # Many passes: the thresholds used up, and an idle pass, with no smaller one after it, that is the last of the list or
+    # the one before it.
     table = ref.table_of([0, 1, 100, 300])
     for length, count, passes, changes in ((70, 64, 64, 64), (63, 64, 64, 63), (62, 64, 63, 62), (30, 20, 20, 20)):
         page = chain(random, length)
@@ -814,14 +816,15 @@ def branches_clean(pages, random):
         runs = runs_for(random, k, b, j)
         data = random.symbols(q, b * k)
         got = pages.decode(q, k, b, ref.table_of(*runs), ref.code_word(q, k, runs, data), thresholds, expect=0)
-        assert got.result == data and got.counts == (1, 0, 0, 0)
+        assert got.result == data and got.counts == (len(ref.strict_minima(thresholds)), 0, 0, 0)
 
 
 @group("branches, decode, damage inside the bound")
 def branches_inside(pages, random):
-    """As many symbols replaced as the bound allows, in every branch as far as they go; the data comes back."""
+    """As many symbols replaced as the first threshold alone allows, in every branch as far as they go; the data comes
+    back."""
     def inside(q, k, runs, thresholds, places):
-        assert 2 * len(places) + thresholds[0] <= len(runs[0])
+        assert 2 * len(places) + min(thresholds) <= len(runs[0])
         data = random.symbols(q, len(runs) * k)
         page = damaged(random, q, ref.code_word(q, k, runs, data), places)
         got = pages.decode(q, k, len(runs), ref.table_of(*runs), page, thresholds, expect=0)
@@ -912,6 +915,239 @@ def branches_margins(pages, random):
         for page, lowest in ((back, -5), (all_but_one, -4)):
             got = pages.decode(q, k, 2, ref.table_of(*runs), page, [0], expect=0)
             assert got.margins[k] == lowest
+
+# Schedules: which passes of the list are run (request N4)
+
+def with_leads(random, q, k, runs, leads):
+    """A page on which, for each of the leads, 1 to J - 1, one data symbol leads by so many votes, and no other symbol is
+    to be changed. Returns the data sent and the page.
+
+    A symbol is replaced, and J - 1 - lead of its checks: the others agree on the damage, and each of the replaced ones
+    says something else, as d does. The symbols are of the branches in turn and have no check in common, so that a pass
+    changes those whose lead is above its threshold, once, and they then stay."""
+    b, j = len(runs), len(runs[0])
+    data = random.symbols(q, b * k)
+    page, used = ref.code_word(q, k, runs, data), set()
+    for n, lead in enumerate(leads):
+        symbol = n % b * k + random.below(k)
+        while used & set(ref.checks_of(k, runs, symbol)):
+            symbol = n % b * k + random.below(k)
+        checks = ref.checks_of(k, runs, symbol)
+        used |= set(checks)
+        error, *others = random.some(range(1, q), j - lead)
+        page[symbol] = (page[symbol] + error) % q
+        for check, other in zip(random.some(checks, j - 1 - lead), others):
+            # S is to be `other` there.
+            page[b * k + check] = (page[b * k + check] + error - other) % q
+    return data, page
+
+
+def goes_on(got):
+    """Is there a change in a pass that comes after an idle one?"""
+    changes = got.changes_of_pass
+    return 0 in changes and any(changes[changes.index(0):])
+
+
+def up_and_down(low, high, count):
+    """low, high, low, high, .."""
+    return ([low, high] * count)[:count]
+
+
+# Threshold lists of every kind, for codes with J of about 8.
+LISTS = [
+    # falling, by one or by more, with equal ones between
+    [3, 2, 0], [32, 16, 8, 4, 2, 1, 0], list(range(32, -1, -1)), [5, 5, 4, 4, 3, 3, 2, 2, 1, 1, 0, 0], [3, 3, 2, 0, 0],
+    [32, 0], [8, 7, 6, 5],
+    # rising
+    [0, 1, 2, 3], [2, 3], list(range(33)), [1, 32],
+    # equal
+    [0, 0], [2, 2, 2], [7] * 5, [32] * 64, [0] * 64,
+    # up and down
+    up_and_down(3, 1, 6), up_and_down(1, 3, 6), [4, 6, 2, 8, 0, 9], [6, 4, 5, 3, 4, 2, 3, 1, 2, 0], [0, 9, 0, 9, 0],
+    [2, 1, 2, 0], [7, 8, 9, 6, 7, 8, 5],
+    # 64 long
+    [32 - i // 2 for i in range(64)], [i // 2 for i in range(64)], up_and_down(32, 0, 64), up_and_down(0, 32, 64),
+    [32] * 63 + [0], [9] * 32 + [8] * 31 + [0], [(7 * i) % 33 for i in range(64)],
+    [(26 * i + 32) % 33 for i in range(64)],
+]
+
+
+@group("schedules, clean pages")
+def schedules_clean(pages, random):
+    """The passes run are the strict minima of the list."""
+    for at, thresholds in enumerate(LISTS + [[random.below(33) for _ in range(n)] for n in (2, 5, 17, 40, 64)]):
+        q, k, j = ((3, 1, 1), (256, 13, 4), (10, 57, 8), (251, 31, 6))[at % 4]
+        positions = positions_for(random, k, j)
+        data = random.symbols(q, k)
+        page = ref.code_word(q, k, [positions], data)
+        got = pages.decode(q, k, 1, ref.table_of(positions), page, thresholds, expect=0)
+        assert got.result == data and got.places == ref.strict_minima(thresholds)
+
+
+def scheduled(pages, random, q, k, runs, leads, thresholds, places, changes):
+    """A page with these leads: the places of the passes run and their changes are as stated."""
+    data, page = with_leads(random, q, k, runs, leads)
+    got = pages.decode(q, k, len(runs), ref.table_of(*runs), page, thresholds, expect=0)
+    assert (got.places, got.changes_of_pass) == (places, changes)
+    assert (got.result == data) == (sum(changes) == len(leads))
+
+
+@group("schedules, the page of case 7")
+def schedules_case_7(pages, random):
+    """Symbol 0 is changed by the first pass that is run with a threshold below 3."""
+    for thresholds in LISTS + [[3, 2], [3, 3, 2], [3, 3, 3, 2, 1], [4, 3, 2], [3, 4, 2], [3, 4, 5], [3], [2, 3, 2]]:
+        got = pages.decode(256, 13, 1, ref.CODE_A, ref.page_a({0: 7}), thresholds, expect=0)
+        assert got.counts.changes == (min(thresholds) < 3)
+
+
+@group("schedules, idle passes at every place")
+def schedules_idle(pages, random):
+    """Symbols of known leads, J = 8: what each pass has to change is known."""
+    k, positions = 256, greedy(256)[:8]
+    falling = [7, 6, 5, 4, 3, 2, 1, 0]
+
+    # One symbol. All passes of a falling list are run, and one of them makes the change.
+    for lead in range(1, 8):
+        changes = [1 if t == lead - 1 else 0 for t in falling]
+        scheduled(pages, random, 256, k, [positions], [lead], falling, list(range(8)), changes)
+    # A symbol for each pass but one: this is the idle one.
+    for idle in range(1, 8):
+        leads = [lead for lead in range(1, 8) if lead != idle]
+        changes = [0] + [0 if t == idle - 1 else 1 for t in falling[1:]]
+        scheduled(pages, random, 251, k, [positions], leads, falling, list(range(8)), changes)
+    # Leads 7, 5, 3 and 1.
+    for thresholds, places, changes in (
+            ([8, 7, 6, 4, 2, 0], [0, 1, 2, 3, 4, 5], [0, 0, 1, 1, 1, 1]),
+            ([8, 8, 7, 7, 6, 6, 0], [0, 2, 4, 5, 6], [0, 0, 1, 0, 3]),
+            ([0, 0, 0], [0, 1], [4, 0]),
+            ([6, 6, 6], [0, 1], [1, 0]),
+            ([6, 7, 8, 5, 0], [0, 1, 3, 4], [1, 0, 0, 3]),
+            ([7, 8, 7, 6], [0, 3], [0, 1]),
+            ([7, 8, 9, 7], [0], [0]),
+            ([3, 6, 0], [0, 1, 2], [2, 0, 2]),
+            ([3, 6, 6, 3, 3, 6, 0], [0, 1, 3, 6], [2, 0, 0, 2]),
+            ([4, 4, 4, 2], [0, 1, 3], [2, 0, 1]),
+            ([4, 2, 4, 2, 0], [0, 1, 2, 3, 4], [2, 1, 0, 0, 1]),
+            ([0, 5, 4, 3, 2, 1, 0], [0, 1, 2, 3, 4, 5, 6], [4, 0, 0, 0, 0, 0, 0]),
+            ([1, 2, 3, 4], [0, 1], [3, 0]),
+            ([7, 3, 5, 2, 4, 1, 3, 0], [0, 1, 2, 3, 4, 5, 7], [0, 2, 0, 1, 0, 0, 1]),
+            ([32, 31, 30, 6, 6, 6, 5, 4], [0, 1, 2, 3, 4, 6, 7], [0, 0, 0, 1, 0, 0, 1]),
+            ([32] * 63 + [6], [0, 63], [0, 1]),
+            ([6] + [32] * 62 + [0], [0, 1, 63], [1, 0, 3]),
+            ([7] * 30 + [6] * 30 + [5, 4, 4, 5], [0, 30, 31, 60, 61, 62], [0, 1, 0, 0, 1, 0]),
+            (list(range(32, 0, -1)) + list(range(31, -1, -1)), list(range(32)) + [63],
+             [0] * 26 + [1, 0, 1, 0, 1, 0] + [1]),
+            (list(range(31, -1, -1)) + list(range(32, 0, -1)), list(range(64)),
+             [0] * 25 + [1, 0, 1, 0, 1, 0, 1] + [0] * 32),
+    ):
+        scheduled(pages, random, 256, k, [positions], [7, 5, 3, 1], thresholds, places, changes)
+
+
+def scheduled_inside(pages, random, q, k, runs, thresholds, places):
+    """As many symbols replaced as the smallest threshold allows, and more than the first would: the data comes back.
+    Returns whether that took a pass after an idle one."""
+    assert 2 * len(places) + min(thresholds) <= len(runs[0]) < 2 * len(places) + thresholds[0]
+    data = random.symbols(q, len(runs) * k)
+    page = damaged(random, q, ref.code_word(q, k, runs, data), places)
+    got = pages.decode(q, k, len(runs), ref.table_of(*runs), page, thresholds, expect=0)
+    assert got.result == data
+    return goes_on(got)
+
+
+def lists_inside(j, least):
+    """Lists with a smallest threshold, whose first one is too large for the bound."""
+    return ([j, least], [32, least], [j - 1, j // 2, least], [least + 2, least], [j] * 3 + [j // 2] * 3 + [least] * 3,
+            [j // 2 + 1, j, 32, least, j], list(range(32, least - 1, -1)), [j, least + 1, j, least, j],
+            [32] * 63 + [least])
+
+
+@group("schedules, damage inside the bound")
+def schedules_inside(pages, random):
+    """By the smallest threshold; the first is above it."""
+    went_on = 0
+    for at, (q, k, j, least) in enumerate((
+            (3, 3, 2, 0), (256, 7, 3, 0), (5, 7, 3, 1), (256, 13, 4, 0), (3, 13, 4, 2), (10, 31, 6, 0), (251, 31, 6, 2),
+            (3, 57, 8, 0), (256, 57, 8, 0), (129, 57, 7, 1), (4, 100, 5, 0), (256, 133, 12, 0), (3, 133, 12, 4),
+            (17, 183, 14, 0), (255, 183, 13, 3), (251, 307, 18, 0), (3, 307, 18, 8), (256, 381, 20, 2), (7, 993, 32, 0),
+            (256, 993, 32, 0), (10, 993, 31, 15), (251, 1021, 12, 0))):
+        lists = lists_inside(j, least)
+        for thresholds in (lists[at % len(lists)], lists[(4 * at + 1) % len(lists)])[:1 if k > 500 else 2]:
+            places = random_places(random, k, (j - least) // 2)
+            went_on += scheduled_inside(pages, random, q, k, [positions_for(random, k, j)], thresholds, places)
+    # All damage on one data symbol and its own checks: its lead is the smallest that the bound leaves, so that only the
+    # pass with the smallest threshold changes it.
+    for q, k, j, least in ((3, 13, 4, 0), (256, 57, 8, 0), (10, 57, 8, 2), (251, 133, 12, 4), (5, 307, 18, 0)):
+        positions = positions_for(random, k, j)
+        at = random.below(k)
+        checks = [k + i for i in ref.checks_of(k, [positions], at)]
+        for thresholds in ([j, least], list(range(j, least - 1, -1)), [j, least + 2, j, least + 2, least, j]):
+            went_on += scheduled_inside(pages, random, q, k, [positions], thresholds,
+                                        [at] + checks[:(j - least) // 2 - 1])
+            scheduled_inside(pages, random, q, k, [positions], thresholds, checks[:(j - least) // 2])
+    assert went_on >= 30
+
+
+@group("schedules, damage outside the bound")
+def schedules_outside(pages, random):
+    """More symbols replaced than the bound allows, with lists of every kind, then with random ones."""
+    went_on = 0
+    lists = LISTS + [[random.below(9) for _ in range(n)] for n in (4, 9, 16, 33, 64)]
+    for at, thresholds in enumerate(lists + lists):
+        q, k, j = ((256, 57, 8), (251, 133, 12), (10, 133, 10), (3, 57, 8), (256, 183, 14), (5, 31, 6),
+                   (129, 256, 8))[at % 7]
+        positions = positions_for(random, k, j)
+        page = ref.code_word(q, k, [positions], random.symbols(q, k))
+        page = damaged(random, q, page, random_places(random, k, max(2 * k // random.pick((25, 12, 6)), j // 2 + 1)))
+        went_on += goes_on(pages.decode(q, k, 1, ref.table_of(positions), page, thresholds, expect=0))
+    # Every symbol random.
+    for q, k, j, thresholds in ((3, 57, 8, [5, 3, 1, 0, 1, 0]), (256, 57, 8, [4, 2, 1, 0]),
+                                (10, 133, 12, [6, 3, 1, 0, 0]),
+                                (251, 133, 12, [32, 3, 2, 1, 0, 0]), (4, 31, 6, [3, 2, 1, 0] * 16),
+                                (5, 993, 32, [16, 8, 4, 2, 1, 0]), (256, 1021, 12, [6, 3, 1, 0])):
+        table = ref.table_of(positions_for(random, k, j))
+        went_on += goes_on(pages.decode(q, k, 1, table, random.symbols(q, 2 * k), thresholds, expect=0))
+    assert went_on >= 25
+
+
+@group("branches, schedules")
+def branches_schedules(pages, random):
+    """Clean pages, symbols of known leads in each branch, damage inside the bound and outside it."""
+    for at, thresholds in enumerate(LISTS[::2]):
+        q, k, b, j = ((3, 1, 8, 1), (256, 13, 2, 3), (10, 17, 8, 2), (251, 40, 3, 4))[at % 4]
+        runs = runs_for(random, k, b, j)
+        data = random.symbols(q, b * k)
+        got = pages.decode(q, k, b, ref.table_of(*runs), ref.code_word(q, k, runs, data), thresholds, expect=0)
+        assert got.result == data and got.places == ref.strict_minima(thresholds)
+
+    # An idle pass is idle in every branch: leads 5, 4, 2 in branches 0, 1, 2 and the other way round, J = 6.
+    runs = runs_for(random, 156, 3, 6)
+    for leads in ([5, 4, 2], [2, 5, 4]):
+        for thresholds, places, changes in (([5, 4, 3, 2, 1, 0], [0, 1, 2, 3, 4, 5], [0, 1, 1, 0, 1, 0]),
+                                            ([5, 5, 4, 4, 4, 1], [0, 2, 3, 5], [0, 1, 0, 2]),
+                                            ([2, 6, 7, 2, 0], [0, 1, 3, 4], [2, 0, 0, 1]),
+                                            ([6, 7, 5, 6, 5], [0, 2], [0, 0]),
+                                            ([32] * 62 + [0, 0], [0, 62, 63], [0, 3, 0])):
+            scheduled(pages, random, 256, 156, runs, leads, thresholds, places, changes)
+
+    went_on = 0
+    for at, (q, k, b, j, least) in enumerate((
+            (3, 5, 2, 2, 0), (256, 13, 2, 3, 0), (5, 13, 2, 3, 1), (251, 40, 3, 4, 0), (3, 40, 3, 4, 2),
+            (256, 156, 5, 6, 0), (10, 156, 2, 6, 2), (129, 156, 2, 6, 0), (3, 400, 2, 8, 0))):
+        lists = lists_inside(j, least)
+        for thresholds in (lists[at % len(lists)], lists[(4 * at + 1) % len(lists)])[:1 if k > 300 else 2]:
+            places = branch_places(k, b, (j - least) // 2, random)
+            went_on += scheduled_inside(pages, random, q, k, runs_for(random, k, b, j), thresholds, places)
+    assert went_on >= 10
+
+    went_on = 0
+    for at, thresholds in enumerate(LISTS):
+        q, k, b, j = ((256, 40, 3, 4), (251, 74, 2, 5), (10, 156, 2, 6), (3, 40, 2, 4), (256, 31, 7, 2))[at % 5]
+        runs = runs_for(random, k, b, j)
+        page = ref.code_word(q, k, runs, random.symbols(q, b * k))
+        count = max((b + 1) * k // random.pick((30, 20, 10)), j // 2 + 1)
+        page = damaged(random, q, page, branch_places(k, b, count, random))
+        went_on += goes_on(pages.decode(q, k, b, ref.table_of(*runs), page, thresholds, expect=0))
+    assert went_on >= 8
 
 
 def make():

@@ -1,9 +1,9 @@
-"""The page code and its decoder, as documents 01 and 02 (requests N1 and N2) state them: clear rather than fast.
+"""The page code and its decoder, as documents 01 and 02 (requests N1, N2 and N4) state them: clear rather than fast.
 
 Shares no code and no tables with the library. `check_table`, `encode`, `syndrome` and `decode` take what the C calls
 take, with the lengths of lent buffers in place of the buffers. They return the number and, at 0, what was written.
 Elsewhere a code is q, k and its runs, a list of positions for each branch. Run as a program it tries itself on the
-worked cases of document 01 and on the codes of N2.
+worked cases of document 01, on the codes of N2 and on the threshold lists of N4.
 """
 
 import functools
@@ -14,7 +14,8 @@ from collections import Counter, namedtuple
 ALL_PAIRS = 32
 
 Counts = namedtuple("Counts", "passes changes start end")
-Decoded = namedtuple("Decoded", "result syndrome difference margins counts changes_of_pass")
+# `places` are the places, in the list of thresholds, of the passes that were run.
+Decoded = namedtuple("Decoded", "result syndrome difference margins counts places changes_of_pass")
 
 
 # The code
@@ -193,28 +194,44 @@ def margin(values):
     return values.count(0) - max(others.values(), default=0)
 
 
+def next_place(thresholds, place, changes):
+    """The place in the list of the pass that follows the one at `place`, which made so many changes; None where decoding
+    stops. After a change it is the next in the list. After an idle pass it is the first later one whose threshold is
+    smaller than that of the idle pass."""
+    for later in range(place + 1, len(thresholds)):
+        if changes > 0 or thresholds[later] < thresholds[place]:
+            return later
+    return None
+
+
 def run(q, k, runs, page, thresholds):
-    """All the passes. Returns result, S, D and the number of changes of each pass run."""
+    """All the passes. Returns result, S, D, the places of the passes run and the number of changes of each."""
     n = len(runs) * k
     result = list(page[:n])
     s = syndrome_of(q, k, runs, page)
     d = [0] * n
-    changes_of_pass = []
-    for threshold in thresholds:
+    places, changes_of_pass = [], []
+    place = 0
+    while place is not None:
         changes = 0
         for j in range(n):
             checks = checks_of(k, runs, j)
             h0, ahead = lead(estimates(k, runs, s, d, j))
-            if ahead > threshold and h0 != 0:
+            if ahead > thresholds[place] and h0 != 0:
                 result[j] = (result[j] - h0) % q
                 d[j] = (d[j] - h0) % q
                 for i in checks:
                     s[i] = (s[i] - h0) % q
                 changes += 1
+        places.append(place)
         changes_of_pass.append(changes)
-        if changes == 0:
-            break
-    return result, s, d, changes_of_pass
+        place = next_place(thresholds, place, changes)
+    return result, s, d, places, changes_of_pass
+
+
+def strict_minima(values):
+    """The places whose value is smaller than all before it."""
+    return [i for i, value in enumerate(values) if all(value < before for before in values[:i])]
 
 
 # The calls
@@ -245,10 +262,10 @@ def decode(q, k, b, table, page, thresholds, *lengths):
     runs = runs_of(b, table)
     page = list(page)
     data, received = page[:b * k], page[b * k:]
-    result, s, d, changes_of_pass = run(q, k, runs, page, thresholds)
+    result, s, d, places, changes_of_pass = run(q, k, runs, page, thresholds)
     margins = [margin(estimates(k, runs, s, d, j)) for j in range(b * k)]
     counts = Counts(
-        passes=len(changes_of_pass),
+        passes=len(places),
         changes=sum(changes_of_pass),
         start=distance(code_word(q, k, runs, data), page),
         end=distance(code_word(q, k, runs, result), page))
@@ -257,7 +274,7 @@ def decode(q, k, b, table, page, thresholds, *lengths):
     assert result == [(a + c) % q for a, c in zip(data, d)]
     assert s == [(a - c) % q for a, c in zip(code_word(q, k, runs, result)[b * k:], received)]
     assert counts.end == sum(x != 0 for x in s + d)
-    assert counts.end + sum(n * (t + 1) for n, t in zip(changes_of_pass, thresholds)) <= counts.start
+    assert counts.end + sum(n * (thresholds[i] + 1) for i, n in zip(places, changes_of_pass)) <= counts.start
     assert counts.changes <= 64 * 4096 and counts.start <= 8192
     # What N1 says of every margin, and where it is J + 1.
     most = len(runs[0]) + 1
@@ -265,7 +282,14 @@ def decode(q, k, b, table, page, thresholds, *lengths):
     assert all((m == most) == (not any(estimates(k, runs, s, d, j))) for j, m in enumerate(margins))
     # What N2 says of the lengths.
     assert (len(result), len(s), len(d), 4 * len(margins)) == decode_lengths(k, b)
-    return 0, Decoded(result, s, d, margins, counts, changes_of_pass)
+    # What follows from N4 for the passes of every decode.
+    least = min(thresholds)
+    assert thresholds.index(least) in places
+    assert places[-1] == len(thresholds) - 1 or changes_of_pass[-1] == 0 and thresholds[places[-1]] <= \
+        min(thresholds[places[-1]:])
+    if counts.changes == 0:
+        assert places == strict_minima(thresholds)
+    return 0, Decoded(result, s, d, margins, counts, places, changes_of_pass)
 
 
 # The worked cases of document 01
@@ -288,7 +312,8 @@ def decode_a(q, page, thresholds):
 
 
 def self_check():
-    """Cases 1 to 14 in turn, by the numbers that document 01 states, then margins worked out by hand."""
+    """Cases 1 to 14 in turn, by the numbers that document 01 states, for case 7 those of N4; then margins worked out by
+    hand."""
     # 1, 2
     assert check_table(256, 13, 1, CODE_A) == 0
     assert check_table(256, 12, 1, CODE_A) == 5
@@ -306,7 +331,9 @@ def self_check():
     # 6 to 10: page, thresholds, then result, S, D, counts
     for page, thresholds, result, s, d, counts in [
         (page_a({0: 7}), [2, 2], {}, {}, {0: 249}, (2, 1, 4, 1)),
-        (page_a({0: 7}), [3, 2], {0: 7}, {0: 7, 1: 7, 4: 7, 6: 7}, {}, (1, 0, 4, 4)),
+        (page_a({0: 7}), [3, 2], {}, {}, {0: 249}, (2, 1, 4, 1)),
+        (page_a({0: 7}), [3, 3, 2], {}, {}, {0: 249}, (2, 1, 4, 1)),
+        (page_a({0: 7}), [3], {0: 7}, {0: 7, 1: 7, 4: 7, 6: 7}, {}, (1, 0, 4, 4)),
         (page_a({}, {2: 9}), [0], {}, {2: 247}, {}, (1, 0, 1, 1)),
         (page_a({0: 7, 1: 3}), [0, 0], {}, {}, {0: 249, 1: 253}, (2, 2, 7, 2)),
         (page_a({}, {0: 251, 1: 251, 4: 251}), [0], {0: 251}, {6: 251}, {0: 251}, (1, 1, 3, 2)),
@@ -328,17 +355,18 @@ def self_check():
     h0, ahead = lead([2, 2, 1, 1, 0])
     assert ahead == 0
     assert lead([7, 7, 0, 9, 1]) == (7, 1)
-    # N1: a list of estimates by itself, then the pages of cases 6, 7 and 8
+    # N1: a list of estimates by itself, then the pages of cases 6 and 8, and that of case 7 with a threshold of 3 alone
     for values, due in (([0] * 5, 5), ([7] * 5, -5), ([0, 0, 0, 0, 1], 3), ([1, 2, 3, 4, 5], -1), ([9, 9, 9, 9, 4], -4),
                         ([0, 0, 3, 3, 8], 0), ([0, 0, 0, 3, 8], 2), ([0, 1], 0), ([1, 1], -2)):
         assert margin(values) == due
-    # 6: d(0) alone is not 0. 7: all four checks of symbol 0 are 7, and each other symbol has one of them. 8: s(2) alone is
-    # not 0, and check 2 is one of symbols 2, 1, 11 and 9.
+    # 6: d(0) alone is not 0. 7 left as it was: all four checks of symbol 0 are 7, and each other symbol has one of them.
+    # 8: s(2) alone is not 0, and check 2 is one of symbols 2, 1, 11 and 9.
     for page, thresholds, margins in ((page_a({0: 7}), [2, 2], [3] + [5] * 12),
-                                      (page_a({0: 7}), [3, 2], [-3] + [3] * 12),
+                                      (page_a({0: 7}), [3], [-3] + [3] * 12),
                                       (page_a({}, {2: 9}), [0], [3 if j in (1, 2, 9, 11) else 5 for j in range(13)])):
         assert decode_a(256, page, thresholds)[1].margins == margins
     branches_check()
+    schedules_check()
 
 
 def branches_check():
@@ -361,7 +389,7 @@ def branches_check():
     assert got.margins == [3] * 25 + [1]
     # With threshold 1 it stays. Its checks are 12 and 1. Check 12 is also one of symbols 12, 11 of branch 0 and 10 of
     # branch 1, check 1 one of symbols 1, 0 of branch 0 and 1 of branch 1.
-    number, got = decode(256, 13, 2, table, page, [1, 0], *decode_lengths(13, 2))
+    number, got = decode(256, 13, 2, table, page, [1, 1], *decode_lengths(13, 2))
     assert number == 0 and got.result == page[:26] and got.counts == (1, 0, 2, 2)
     assert got.margins == [-1 if j == 25 else 1 if j in (0, 1, 11, 12, 13 + 1, 13 + 10) else 3 for j in range(26)]
     # Runs of one branch of at most 14 symbols, and of two branches of at most 7: tested in three ways.
@@ -375,6 +403,49 @@ def branches_check():
                 differences_differ(k, code)
 
 
+def schedules_check():
+    """The passes that N4 has run: lists worked out by hand, then the recovery bound with the smallest threshold."""
+    # Symbol 0 has a lead of 3, as in case 7, until a pass with a smaller threshold changes it; then nothing is changed.
+    # Thresholds, the places of the passes run, their changes.
+    for thresholds, places, changes in [
+        ([3, 2], [0, 1], [0, 1]),
+        ([3, 3, 2], [0, 2], [0, 1]),
+        ([3, 2, 0], [0, 1, 2], [0, 1, 0]),        # the pass that changed is followed by the next, idle at once
+        ([3, 2, 2, 2], [0, 1, 2], [0, 1, 0]),     # the idle 2 has no smaller one after it
+        ([3, 2, 5, 4, 4, 3], [0, 1, 2, 3, 5], [0, 1, 0, 0, 0]),
+        ([2, 4, 5, 1, 0], [0, 1, 3, 4], [1, 0, 0, 0]),
+        ([3, 4, 5], [0], [0]),                    # no smaller one
+        ([3, 4, 3, 5], [0], [0]),
+        ([5, 7, 4, 6, 3, 8, 0], [0, 2, 4, 6], [0, 0, 0, 1]),
+        ([32] * 63 + [0], [0, 63], [0, 1]),
+        (list(range(32, -1, -1)), list(range(33)), [0] * 30 + [1, 0, 0]),
+    ]:
+        number, got = decode_a(256, page_a({0: 7}), thresholds)
+        assert number == 0 and (got.places, got.changes_of_pass) == (places, changes)
+    # A page at distance 0: the strict minima of the list.
+    for thresholds, passes in (([3, 3, 2, 0, 0], 3), ([0, 0, 0], 1), ([1, 2, 3], 1), ([32] * 64, 1), ([2, 1, 2, 0], 3)):
+        number, got = decode_a(256, page_a(), thresholds)
+        assert number == 0 and got.counts == (passes, 0, 0, 0)
+    # Two branches: symbol 25 has a lead of 1 (see above), so that the pass with threshold 1 is idle and the next is not.
+    number, got = decode(256, 13, 2, table_of([0, 1], [0, 2]), symbols(39, {25: 250}), [1, 1, 0], *decode_lengths(13, 2))
+    assert number == 0 and got[:3] == ([0] * 26, [0] * 13, symbols(26, {25: 6})) and got.counts == (2, 1, 2, 1)
+    # Every page with at most two symbols replaced, of the word that is all 0 at q = 3: with 0 among the thresholds the
+    # data comes back; with a smallest of 1 or 2 where one symbol was replaced, else not always.
+    pages = [page_a()]
+    for places in itertools.chain(itertools.combinations(range(26), 1), itertools.combinations(range(26), 2)):
+        for values in itertools.product((1, 2), repeat=len(places)):
+            pages.append(symbols(26, dict(zip(places, values))))
+    for thresholds in ([4, 0], [2, 5, 0, 1], [3, 3, 1], [4, 2, 32]):
+        wrong = 0
+        for page in pages:
+            number, got = decode_a(3, page, thresholds)
+            right = got.result == [0] * 13
+            inside = 2 * distance(page, page_a()) + min(thresholds) <= 4
+            assert number == 0 and (right or not inside)
+            wrong += not right
+        assert (wrong == 0) == (0 in thresholds)
+
+
 if __name__ == "__main__":
     self_check()
-    print("The worked cases of document 01 and the codes of N2 pass.")
+    print("The worked cases of document 01, the codes of N2 and the threshold lists of N4 pass.")

@@ -84,7 +84,7 @@ fn encodings() {
     show_encode(5, &data);
 }
 
-// Cases 6 to 10: a page received with code A.
+// Cases 6 to 10: a page received with code A. Case 7 is that of request N4, with thresholds 3, 2 and with 3, 3, 2.
 fn show_decode(case: u32, page: &[u8], thresholds: &[u8]) {
     let mut result = [0u8; 13];
     let mut s = [0u8; 13];
@@ -119,6 +119,7 @@ fn one_data_symbol() {
     page[0] = 7;
     show_decode(6, &page, &[2, 2]);
     show_decode(7, &page, &[3, 2]);
+    show_decode(7, &page, &[3, 3, 2]);
 }
 
 fn one_check_symbol() {
