@@ -9,9 +9,9 @@ ghost use Rattle.model.specs.Demand.{Encodes, DecodeFalls, DecodeRecovers};
 // The version: major times 10,000 plus minor times 100 plus patch.
 #[no_mangle]
 pub extern "C" fn qmtd_version() -> u32
-    ensures { λ r. ⌜ r ≡ 300 ⌝ }
+    ensures { λ r. ⌜ r ≡ 500 ⌝ }
 {
-    300
+    500
 }
 
 // Checks a code table.

@@ -10,7 +10,7 @@ use Rattle.params.specs.Codes.{codeBy}
 use Rattle.checks.specs.Places.{InBranch, AtBranch, branch-first, branch-next, branch-some, branch-over, Placed, in-placed, in-along, in-onward, onward-fits}
 use Rattle.checks.specs.declared.Place.{Place}
 use Rattle.zeros.specs.Counts.{zeroCounts, length-zeroCounts}
-use Rattle.visits.specs.Progress.{Progress, progress, visitOf, Ready, at-table}
+use Rattle.visits.specs.Progress.{Progress, progress, visitOf, Ready}
 use Rattle.passes.specs.Runs.{visits, visitsFrom, from-none, from-suc, visits-from, passesFrom, runOf, Kept, kept-by, passes-nil, pass-idle, pass-changed}
 use Rattle.passes.proofs.run_counted.Statement.{statement}
 use Rattle.passes.proofs.run_counted.Tie as tie
