@@ -171,7 +171,8 @@ fn runs_fit(code: Params, positions: &[u16]) -> bool
     ensures { λ r. ⌜ r ≡ runsFit (codeBy code (now (positions .entry))) ⌝ }
 {
     let each = params::checks_each(code, positions.len());
-    if positions.len() != code.b * each {
+    let all = params::times(code.b, each);
+    if positions.len() != all {
         return false;
     }
     within(1, 32, each)
