@@ -60,8 +60,8 @@ def passes(page, decoded):
     code = Q, K, 1, ref.table_of(POSITIONS)
     number, buffers = ref.open_page(*code, page, *ref.buffer_lengths(K, 1))
     assert number == 0
-    lines = [f"The page after each pass, {IN_LINE} data symbols and {IN_LINE} checks in a line: # on the left is a data "
-             "symbol that", "differs from the one received, # on the right a check that is not 0.", ""]
+    lines = [f"The page after each pass, {IN_LINE} data symbols and {IN_LINE} checks in a line: # on the left is a "
+             "data symbol that", "differs from the one received, # on the right a check that is not 0.", ""]
     lines += view("Opened", True, *buffers[1:])
     for n, place in enumerate(decoded.places, start=1):
         number, (*buffers, changes) = ref.pass_once(*code, THRESHOLDS[place], *buffers)
