@@ -3,9 +3,9 @@ use Prim.Native.Nat.{_-_}
 use native.Mathlib.Omega.{arith}
 use borrow.Author.Needs.{needs}
 use lib.ListN.{length}
-use Rattle.zeros.specs.Recount.{Recounted, Turn, recount-none, recount-turn, recount-all}
-use Rattle.zeros.proofs.recount_run.Statement.{statement}
-use Rattle.zeros.proofs.recount_run.Tie as tie
+use Rattle.recount.specs.Recount.{Recounted, Turn, recount-none, recount-turn, recount-all}
+use Rattle.recount.proofs.recount_run.Statement.{statement}
+use Rattle.recount.proofs.recount_run.Tie as tie
 
 abbrev Inv-loop : tie.InvT-loop
 Inv-loop code positions c gained lost zeros₀ i₀ zeros i = Recounted (code .k) positions c gained lost zeros₀ i zeros

@@ -9,9 +9,9 @@ use Rattle.model.specs.Symbols.{subtractAt}
 use Rattle.params.specs.Codes.{codeBy}
 use Rattle.checks.specs.Checks.{AtChecks, at-checks-of, by-position, check-inside, Subtracted, subtract-none, subtract-below, subtract-turn, subtract-all}
 use Rattle.checks.specs.Places.{Found, found, at-table-of}
 use Rattle.zeros.specs.Counts.{zeroCounts, length-zeroCounts}
-use Rattle.zeros.proofs.subtract_checks.Statement.{statement}
-use Rattle.zeros.proofs.subtract_checks.Tie as tie
+use Rattle.recount.proofs.subtract_checks.Statement.{statement}
+use Rattle.recount.proofs.subtract_checks.Tie as tie
 
 -- the run of `each` positions from `first` on
 abbrev runAt : List ℕ → ℕ → ℕ → List ℕ

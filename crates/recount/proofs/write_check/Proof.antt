@@ -8,11 +8,11 @@ use Rattle.model.specs.Code.{Code, branchAt}
 use Rattle.params.specs.Codes.{codeBy}
 use Rattle.theory.specs.Branches.{Branch, next-branch}
 use Rattle.checks.specs.Checks.{AtChecks, at-run}
 use Rattle.zeros.specs.Counting.{Counting, counting-none, counting-length, counting-part, counting-turn, counting-all}
 use Rattle.zeros.specs.Counts.{length-zeroCounts}
-use Rattle.zeros.specs.Recount.{recounts, recounted-zeros, unchanged-zeros}
-use Rattle.zeros.proofs.write_check.Statement.{statement}
-use Rattle.zeros.proofs.write_check.Tie as tie
+use Rattle.recount.specs.Recount.{recounts, recounted-zeros, unchanged-zeros}
+use Rattle.recount.proofs.write_check.Statement.{statement}
+use Rattle.recount.proofs.write_check.Tie as tie
 
 abbrev Inv-loop : tie.InvT-loop
 Inv-loop code positions each c v s zeros₀ lost gained k from₀ at₀ r₀ zeros from at r = Counting (codeBy code positions) s zeros₀ from at r zeros
