@@ -9,9 +9,9 @@ use Rattle.model.specs.Code.{checkSumBy}
 use Rattle.model.specs.Symbols.{addEach}
 use Rattle.theory.specs.Steps.{SymbolsBelow}
 use Rattle.rows.specs.Rows.{row, each-length}
-use Rattle.page.specs.Sums.{added, rows-turn, rows-two, rows-end, each-below}
-use Rattle.page.proofs.add_rows.Statement.{statement}
-use Rattle.page.proofs.add_rows.Tie as tie
+use Rattle.codeword.specs.Sums.{added, rows-turn, rows-two, rows-end, each-below}
+use Rattle.codeword.proofs.add_rows.Statement.{statement}
+use Rattle.codeword.proofs.add_rows.Tie as tie
 
 abbrev Inv-loop : tie.InvT-loop
 Inv-loop q positions «data» sums₀ n₀ sums n =

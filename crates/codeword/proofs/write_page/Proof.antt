@@ -5,9 +5,9 @@ use native.Mathlib.Omega.{arith}
 use lib.ListN.{length, drop}
 use lib.Seq.{length-take-le}
 use Rattle.model.specs.Code.{codeWord}
-use Rattle.page.specs.Checks.{front-written}
-use Rattle.page.proofs.write_page.Statement.{statement}
-use Rattle.page.proofs.write_page.Tie as tie
+use Rattle.codeword.specs.Checks.{front-written}
+use Rattle.codeword.proofs.write_page.Statement.{statement}
+use Rattle.codeword.proofs.write_page.Tie as tie
 
 slice-relend-prefix-copy-into : tie.Need-slice-relend-prefix-copy-into
 slice-relend-prefix-copy-into c = search needs

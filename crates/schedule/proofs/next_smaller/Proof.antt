@@ -4,9 +4,9 @@ use Prim.Native.Nat.{_≤_, _-_}
 use native.Mathlib.Omega.{arith}
 use lib.ListN.{drop}
 use Rattle.model.specs.Decoder.{firstSmaller}
-use Rattle.passes.specs.Thresholds.{smaller-here, smaller-later, smaller-none}
-use Rattle.passes.proofs.next_smaller.Statement.{statement}
-use Rattle.passes.proofs.next_smaller.Tie as tie
+use Rattle.schedule.specs.Thresholds.{smaller-here, smaller-later, smaller-none}
+use Rattle.schedule.proofs.next_smaller.Statement.{statement}
+use Rattle.schedule.proofs.next_smaller.Tie as tie
 
 abbrev Inv-loop : tie.InvT-loop
 Inv-loop thresholds from threshold n at₀ at =

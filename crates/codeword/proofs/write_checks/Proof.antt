@@ -8,11 +8,11 @@ use lib.Seq.{length-take-le}
 use Rattle.theory.specs.Parts.{below-part}
 use Rattle.theory.specs.Steps.{SymbolsBelow}
 use Rattle.params.specs.Codes.{codeBy}
-use Rattle.page.specs.Sums.{added, row-below}
-use Rattle.page.specs.Rest.{restSum, some-position, first-inside, one-branch}
-use Rattle.page.specs.Checks.{checks-written}
-use Rattle.page.proofs.write_checks.Statement.{statement}
-use Rattle.page.proofs.write_checks.Tie as tie
+use Rattle.codeword.specs.Sums.{added, row-below}
+use Rattle.codeword.specs.Rest.{restSum, some-position, first-inside, one-branch}
+use Rattle.codeword.specs.Checks.{checks-written}
+use Rattle.codeword.proofs.write_checks.Statement.{statement}
+use Rattle.codeword.proofs.write_checks.Tie as tie
 
 shared-slice-read-first : tie.Need-shared-slice-read-first
 shared-slice-read-first c = let b = c .before .before .before .before in omega (arith, some-position _ (b .pre .0 .table))

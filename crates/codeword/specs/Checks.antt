@@ -13,8 +13,8 @@ use Rattle.model.specs.Limits.{TableLimits}
 use Rattle.theory.specs.Distance.{tabulate-ext}
 use Rattle.theory.specs.Modulo.{by-eq}
 use Rattle.rows.specs.Rows.{row, row-length, row-at, less-length, less-at}
-use Rattle.page.specs.Sums.{added}
-use Rattle.page.specs.Rest.{restSum, one-branch, all-rows}
+use Rattle.codeword.specs.Sums.{added}
+use Rattle.codeword.specs.Rest.{restSum, one-branch, all-rows}
 
 -- the row of the first position, in branch 0 of the data u
 abbrev pub firstRow : Code → List ℕ → List ℕ

@@ -8,10 +8,10 @@ use lib.Seq.{length-take-le}
 use Rattle.model.specs.Code.{Code}
 use Rattle.theory.specs.Steps.{SymbolsBelow}
 use Rattle.params.specs.Codes.{codeBy}
-use Rattle.page.specs.Sums.{added, added-below}
-use Rattle.page.specs.Rest.{restSum, rest-none, Stands, Inside, Lent, run-length, one-branch, first-lent, stands-first, stands-next, stands-inside, next-lent, lent-asks, rest-added}
-use Rattle.page.proofs.add_branches.Statement.{statement}
-use Rattle.page.proofs.add_branches.Tie as tie
+use Rattle.codeword.specs.Sums.{added, added-below}
+use Rattle.codeword.specs.Rest.{restSum, rest-none, Stands, Inside, Lent, run-length, one-branch, first-lent, stands-first, stands-next, stands-inside, next-lent, lent-asks, rest-added}
+use Rattle.codeword.proofs.add_branches.Statement.{statement}
+use Rattle.codeword.proofs.add_branches.Tie as tie
 
 -- the sums at the loop's head hold branch 0
 abbrev Inv-loop : tie.InvT-loop

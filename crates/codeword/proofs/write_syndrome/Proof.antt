@@ -9,11 +9,11 @@ use Rattle.theory.specs.Parts.{below-part}
 use Rattle.theory.specs.Steps.{SymbolsBelow}
 use Rattle.params.specs.Codes.{codeBy}
 use Rattle.rows.specs.Rows.{row-length}
-use Rattle.page.specs.Sums.{added, less-below}
-use Rattle.page.specs.Rest.{restSum, some-position, first-inside, one-branch}
-use Rattle.page.specs.Checks.{syndrome-written}
-use Rattle.page.proofs.write_syndrome.Statement.{statement}
-use Rattle.page.proofs.write_syndrome.Tie as tie
+use Rattle.codeword.specs.Sums.{added, less-below}
+use Rattle.codeword.specs.Rest.{restSum, some-position, first-inside, one-branch}
+use Rattle.codeword.specs.Checks.{syndrome-written}
+use Rattle.codeword.proofs.write_syndrome.Statement.{statement}
+use Rattle.codeword.proofs.write_syndrome.Tie as tie
 
 data-count-requires : tie.Need-data-count-requires
 data-count-requires c κs = search needs

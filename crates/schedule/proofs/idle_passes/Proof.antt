@@ -6,9 +6,9 @@ use native.Mathlib.Omega.{arith}
 use lib.ListN.{length, drop}
 use Rattle.model.specs.Decoder.{none}
 use Rattle.theory.specs.Schedule.{minima}
-use Rattle.passes.specs.Thresholds.{minima-at, minima-end}
-use Rattle.passes.proofs.idle_passes.Statement.{statement}
-use Rattle.passes.proofs.idle_passes.Tie as tie
+use Rattle.schedule.specs.Thresholds.{minima-at, minima-end}
+use Rattle.schedule.proofs.idle_passes.Statement.{statement}
+use Rattle.schedule.proofs.idle_passes.Tie as tie
 
 abbrev Inv-loop : tie.InvT-loop
 Inv-loop thresholds n idle₀ p₀ idle p =

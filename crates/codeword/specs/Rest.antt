@@ -16,7 +16,7 @@ use Rattle.theory.specs.Codes.{ByteCode}
 use Rattle.theory.specs.Counting.{same-no, sum-off}
 use Rattle.theory.specs.Parts.{below-part}
 use Rattle.theory.specs.Steps.{SymbolsBelow}
-use Rattle.page.specs.Sums.{added, added-none, added-more}
+use Rattle.codeword.specs.Sums.{added, added-none, added-more}
 
 -- the positions of run r but for the first of run 0, whose row the sums start with
 unfoldable pub restOf : Code → ℕ → List ℕ
