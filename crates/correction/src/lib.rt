@@ -42,7 +42,7 @@ pub fn decode_page(
 {
     let start = opening::open_page(code, positions, page, result, s, d);
     if start == 0 {
-        let idle = passes::idle_passes(thresholds);
+        let idle = schedule::idle_passes(thresholds);
         return Tally::opened(0).passed(idle);
     }
     let opened = Tally::opened(start);

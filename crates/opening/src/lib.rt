@@ -22,7 +22,7 @@ pub fn open_page(
 {
     let n = params::data_count(code);
     slices::copy_into(result, &page[..n]);
-    page::write_syndrome(code, positions, page, s);
+    codeword::write_syndrome(code, positions, page, s);
     slices::clear(d);
     slices::weight_of(s)
 }

@@ -1,5 +1,2 @@
--- What the contracts of the page calls cite, and their laws.
-pub mod Sums
-pub mod Rest
-pub mod Checks
+-- Laws that the proofs of encode and syndrome use.
 pub mod Calls

@@ -17,11 +17,14 @@ fn odd_term(n: usize, term: usize) -> usize
 }
 
 // b times n, by sums: some processors have no product of 64 bits. b is halved and n doubled; where b is odd, what n has become
-// is added.
+// is added. With one branch it is n.
 pub fn times(b: usize, n: usize) -> usize
     requires { ⌜ b * n ≤ 18446744073709551615 ⌝ }
     ensures { λ r. ⌜ r ≡ b * n ⌝ }
 {
+    if b == 1 {
+        return n;
+    }
     let mut sum: usize = 0;
     let mut term = n;
     let mut rest = b;

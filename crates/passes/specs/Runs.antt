@@ -18,7 +18,7 @@ use Rattle.theory.specs.Runs.{after-append, changes-append}
 use Rattle.theory.specs.Schedule.{followed}
 use Rattle.theory.specs.Turns.{pass-turn, pass-count-turn}
 use Rattle.visits.specs.Progress.{Progress, counted, both, with-changes, visitOf, Ready}
-use Rattle.passes.specs.Thresholds.{drop-more}
+use Rattle.schedule.specs.Thresholds.{drop-more}
 use Rattle.tally.specs.declared.Tally.{Tally}
 
 -- the tally with a number of passes

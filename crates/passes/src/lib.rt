@@ -1,51 +1,16 @@
-// The run of passes over the data symbols, and which thresholds of the list it takes.
+// The run of passes over the data symbols.
 use checks::Place;
 use params::Params;
 use tally::Tally;
 ghost use mathlib.Core.Path.{_≡_};
 ghost use Prim.Native.Nat.{_≤_};
-ghost use lib.ListN.{length, drop};
+ghost use lib.ListN.{length};
 ghost use Rattle.model.specs.Code.{dataCount};
-ghost use Rattle.model.specs.Decoder.{stateBy, none, firstSmaller};
+ghost use Rattle.model.specs.Decoder.{stateBy};
 ghost use Rattle.params.specs.Codes.{codeBy};
-ghost use Rattle.theory.specs.Schedule.{minima};
 ghost use Rattle.zeros.specs.Counts.{zeroCounts};
 ghost use Rattle.visits.specs.Progress.{progress, Ready};
 ghost use Rattle.passes.specs.Runs.{runOf};
-
-// The place of the first threshold from `from` on that is smaller than `threshold`, and the end of the list where there is none.
-fn next_smaller(thresholds: &[u8], from: usize, threshold: u8) -> usize
-    requires { ⌜ from ≤ length (now thresholds) ⌝ }
-    ensures { λ r. ⌜ (from ≤ r)
-        × (r ≤ length (now (thresholds .entry)))
-        × (drop r (now (thresholds .entry)) ≡ firstSmaller threshold (drop from (now (thresholds .entry)))) ⌝ }
-{
-    let n = thresholds.len();
-    let mut at = from;
-    while at < n {
-        if thresholds[at] < threshold {
-            return at;
-        }
-        at += 1;
-    }
-    at
-}
-
-// The passes that are run where every one is idle: one for each threshold that is smaller than all before it.
-pub fn idle_passes(thresholds: &[u8]) -> u32
-    requires { ⌜ length (now thresholds) ≤ 64 ⌝ }
-    ensures { λ r. ⌜ r ≡ length (minima none (now (thresholds .entry))) ⌝ }
-{
-    let n = thresholds.len();
-    let mut idle: u32 = 0;
-    let mut p: usize = 0;
-    while p < n {
-        let least = thresholds[p];
-        p = next_smaller(thresholds, p + 1, least);
-        idle += 1;
-    }
-    idle
-}
 
 // Passes with the thresholds in order. An idle pass is followed by the first later one whose threshold is smaller; if there is none, they end.
 fn run_counted(
@@ -99,7 +64,7 @@ fn run_counted(
         count += 1;
         p += 1;
         if tally.changes == before {
-            p = next_smaller(thresholds, p, threshold);
+            p = schedule::next_smaller(thresholds, p, threshold);
             if n <= p {
                 break count;
             }

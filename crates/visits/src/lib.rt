@@ -179,6 +179,6 @@ pub fn visit(
         return tally;
     }
     subtract_symbol(code, j, h, result, difference);
-    zeros::subtract_checks(code, positions, place, h, syndrome, zeros);
+    recount::subtract_checks(code, positions, place, h, syndrome, zeros);
     tally.changed()
 }

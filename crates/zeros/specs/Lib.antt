@@ -2,4 +2,3 @@
 pub mod Counts
 pub mod Counting
 pub mod Runs
-pub mod Recount

@@ -13,6 +13,13 @@ Inv-loop b n sum₀ term₀ rest₀ sum term rest = sum + rest * term ≡ b * n
 abbrev μ-loop : tie.MeasureT-loop
 μ-loop b n sum₀ term₀ rest₀ sum term rest = rest
 
+-- the start, from the loop
+abbrev start : tie.At-loop Inv-loop μ-loop → tie.Start Inv-loop μ-loop
+start c = c .before .before
+
+returns : tie.Need-returns Inv-loop μ-loop
+returns c = rw (c .if1 .taken) (omega arith)
+
 loop-holds : tie.Need-loop-holds Inv-loop μ-loop
 loop-holds c = omega arith
 
@@ -22,14 +29,14 @@ odd-term-requires c κs = search needs
 -- one turn: what is added, and what is left
 turn : (c : tie.After-odd-term Inv-loop μ-loop)
     → c .before .before .loop .sum + c .odd-term .result + c .before .before .loop .rest / 2 * (c .before .before .loop .term + c .before .before .loop .term)
-    ≡ c .before .before .before .args .b * c .before .before .before .args .n
+    ≡ start (c .before .before) .args .b * start (c .before .before) .args .n
 turn c = let l = c .before .before .loop in omega (arith, l .inv, c .odd-term .ensures, halved (l .rest) (l .term))
 
 add-sum : tie.Need-add-sum Inv-loop μ-loop
-add-sum c = omega (arith, turn c, c .before .before .before .pre)
+add-sum c = omega (arith, turn c, start (c .before .before) .pre)
 
 add-term : tie.Need-add-term Inv-loop μ-loop
-add-term c = let l = c .before .before .loop in omega (arith, turn c, c .before .before .before .pre, halved-room (l .rest) (l .term) (omega arith))
+add-term c = let l = c .before .before .loop in omega (arith, turn c, start (c .before .before) .pre, halved-room (l .rest) (l .term) (omega arith))
 
 loop-less : tie.Need-loop-less Inv-loop μ-loop
 loop-less c = omega arith
@@ -42,14 +49,14 @@ odd-term-requires-2 c κs = search needs
 
 -- at the end
 whole : (c : tie.After-odd-term2 Inv-loop μ-loop)
-    → c .before .before .loop .sum + c .odd-term2 .result ≡ c .before .before .before .args .b * c .before .before .before .args .n
+    → c .before .before .loop .sum + c .odd-term2 .result ≡ start (c .before .before) .args .b * start (c .before .before) .args .n
 whole c = let l = c .before .before .loop in omega (arith, l .inv, c .odd-term2 .ensures, last-term (l .rest) (l .term) (omega arith))
 
 add-result : tie.Need-add-result Inv-loop μ-loop
-add-result c = omega (arith, whole c, c .before .before .before .pre)
+add-result c = omega (arith, whole c, start (c .before .before) .pre)
 
-returns : tie.Need-returns Inv-loop μ-loop
-returns c = whole c
+returns-2 : tie.Need-returns-2 Inv-loop μ-loop
+returns-2 c = whole c
 
 pub times-spec : {M : Type 1} → statement M
 times-spec =
@@ -57,6 +64,7 @@ times-spec =
     (tie.spec
     Inv-loop
     μ-loop
+    returns
     loop-holds
     odd-term-requires
     add-sum
@@ -65,4 +73,4 @@ times-spec =
     loop-again
     odd-term-requires-2
     add-result
-    returns)
+    returns-2)

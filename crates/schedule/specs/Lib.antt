@@ -1,0 +1,2 @@
+-- Laws of the list of thresholds, for the loops over it.
+pub mod Thresholds
