@@ -26,11 +26,12 @@ fn position(low: u8, high: u8) -> u16
 }
 
 // Reads the positions of a table, and hands back how many: none where the length is odd or there are more than 256.
+// The buffer must have room for the positions of the table, or for 256: a table of more is not read.
 // Each byte stores a number made with the byte before it, and the second byte of a position stores the one that stays:
 // a loop over pairs of bytes would be compiled into a call of memcpy, which the archive is not to need.
 pub fn read_positions(table: &[u8], positions: &mut [u16]) -> usize
-    requires { ⌜ length (now positions) ≡ 256 ⌝ }
-    ensures few { λ n. ⌜ n ≤ 256 ⌝ }
+    requires { ⌜ (length (now table) ≤ 512 → length (now table) ≤ length (now positions) + length (now positions)) ⌝ }
+    ensures few { λ n. ⌜ n ≤ length (now (positions .entry)) ⌝ }
     ensures read { λ n. ⌜ take n (now (positions .exit)) ≡ kept (positionsOf (now (table .entry))) ⌝ }
 {
     let len = table.len();

@@ -14,17 +14,22 @@ pub extern "C" fn qmtd_version() -> u32
     500
 }
 
-// Checks a code table.
+// Checks a code table. A small table is read into a small buffer, which costs less to clear.
 #[no_mangle]
 pub extern "C" fn qmtd_check_table(q: u32, k: u32, b: u32, table: &[u8]) -> u32
     ensures { λ r. ⌜ r ≡ tableAnswer (codeOf q k b (positionsOf (now (table .entry)))) ⌝ }
 {
+    if table.len() <= 64 {
+        let mut few = [0u16; 32];
+        let n = octets::read_positions(table, &mut few);
+        return table::check_table(q, k, b, &few[..n]);
+    }
     let mut positions = [0u16; 256];
     let n = octets::read_positions(table, &mut positions);
     table::check_table(q, k, b, &positions[..n])
 }
 
-// Encodes data into a page.
+// Encodes data into a page. A small table is read into a small buffer, which costs less to clear.
 #[no_mangle]
 pub extern "C" fn qmtd_encode(
     q: u32,
@@ -38,12 +43,17 @@ pub extern "C" fn qmtd_encode(
         ≡ encodeOutcome (codeOf q k b (positionsOf (now (table .entry)))) (now («data» .entry)) (now (page .entry)) ⌝ }
     ensures word { λ r. ⌜ (r ≡ 0 → Encodes (codeOf q k b (positionsOf (now (table .entry)))) (now («data» .entry)) (now (page .exit))) ⌝ }
 {
+    if table.len() <= 64 {
+        let mut few = [0u16; 32];
+        let n = octets::read_positions(table, &mut few);
+        return page::encode(q, k, b, &few[..n], data, page);
+    }
     let mut positions = [0u16; 256];
     let n = octets::read_positions(table, &mut positions);
     page::encode(q, k, b, &positions[..n], data, page)
 }
 
-// Works out the syndrome of a page.
+// Works out the syndrome of a page. A small table is read into a small buffer, which costs less to clear.
 #[no_mangle]
 pub extern "C" fn qmtd_syndrome(
     q: u32,
@@ -56,6 +66,11 @@ pub extern "C" fn qmtd_syndrome(
     ensures { λ r. ⌜ record { number = r; left = now (syndrome .exit) }
         ≡ syndromeOutcome (codeOf q k b (positionsOf (now (table .entry)))) (now (page .entry)) (now (syndrome .entry)) ⌝ }
 {
+    if table.len() <= 64 {
+        let mut few = [0u16; 32];
+        let n = octets::read_positions(table, &mut few);
+        return page::syndrome(q, k, b, &few[..n], page, syndrome);
+    }
     let mut positions = [0u16; 256];
     let n = octets::read_positions(table, &mut positions);
     page::syndrome(q, k, b, &positions[..n], page, syndrome)

@@ -12,7 +12,7 @@ use Rattle.octets.proofs.read_positions.Tie as tie
 
 abbrev Inv-loop : tie.InvT-loop
 Inv-loop table positions₀ len last₀ i₀ positions last i =
-    (i ≤ len) × (length positions ≡ 256) × (take (i / 2) positions ≡ tabulate (i / 2) (positionAt table)) × (0 < i → last ≡ getD table (i - 1) 0)
+    (i ≤ len) × (length positions ≡ length positions₀) × (len ≤ length positions + length positions) × (take (i / 2) positions ≡ tabulate (i / 2) (positionAt table)) × (0 < i → last ≡ getD table (i - 1) 0)
 
 abbrev μ-loop : tie.MeasureT-loop
 μ-loop table positions₀ len last₀ i₀ positions last i = len - i
@@ -25,7 +25,7 @@ returns-2 c = (omega arith, kept-long _ (omega arith) (omega arith))
 
 loop-holds : tie.Need-loop-holds Inv-loop μ-loop
 unfolding tabulate
-loop-holds c = (omega arith, omega arith, refl, λ h. absurd (omega arith))
+loop-holds c = (omega arith, refl, c .before .before .before .before .pre (omega arith), refl, λ h. absurd (omega arith))
 
 shared-slice-read-byte : tie.Need-shared-slice-read-byte Inv-loop μ-loop
 shared-slice-read-byte c = search needs
@@ -51,8 +51,9 @@ loop-again c =
     let table = c .before .before .before .before .before .before .before .before .args .table .now in (
       omega arith,
       simp length-set (l .inv .1),
+      simp length-set (l .inv .2),
       ap (λ (x : ℕ). take ((l .i + 1) / 2) (set (l .positions) (l .i / 2) x)) (c .position .ensures)
-          ∙ byte-turn table (l .positions) (l .i) (l .last) (omega arith) (l .inv .2) (l .inv .3),
+          ∙ byte-turn table (l .positions) (l .i) (l .last) (omega arith) (l .inv .3) (l .inv .4),
       λ _. ap (λ (n : ℕ). getD table n 0) (omega arith),
     )
 
@@ -63,7 +64,7 @@ returns-3 : tie.Need-returns-3 Inv-loop μ-loop
 returns-3 c =
     let l = c .before .loop in
     let e : l .i ≡ length (c .before .before .before .before .before .before .args .table .now) = omega arith in
-    (omega arith, rw e at (l .inv .2) ∙ kept-all _ (omega arith) (omega arith))
+    (omega arith, rw e at (l .inv .3) ∙ kept-all _ (omega arith) (omega arith))
 
 pub read-positions-spec : {M : Type 1} → statement M
 read-positions-spec =

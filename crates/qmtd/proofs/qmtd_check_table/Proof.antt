@@ -1,12 +1,25 @@
--- `qmtd_check_table`: the answer by the positions read is that by the table's.
-use mathlib.Core.Path.{sym, _∙_}
+-- `qmtd_check_table`: the answer by the positions read is that by the table's, in either buffer.
+use mathlib.Core.Path.{_≡_, sym, _∙_}
+use mathlib.Core.List.{List}
+use Prim.Native.Nat.{ℕ}
 use native.Mathlib.Omega.{arith}
 use lib.Seq.{length-take-le}
 use Rattle.model.specs.Bytes.{positionsOf}
+use Rattle.model.specs.Calls.{tableAnswer}
+use Rattle.model.specs.Code.{codeOf}
+use Rattle.octets.specs.Positions.{kept}
 use Rattle.octets.specs.Reads.{table-read}
 use borrow.Author.Needs.{needs}
 use Rattle.qmtd.proofs.qmtd_check_table.Statement.{statement}
 use Rattle.qmtd.proofs.qmtd_check_table.Tie as tie
+
+-- what the contract says of the number r, with positions ps
+abbrev Holds : tie.Start → List ℕ → ℕ → Type 0
+Holds s ps r = r ≡ tableAnswer (codeOf (s .args .q) (s .args .k) (s .args .b) ps)
+
+-- what holds with the positions that are read, xs, holds with those of the table
+whole : (s : tie.Start) (xs : List ℕ) → xs ≡ kept (positionsOf (s .args .table .now)) → (r : ℕ) → Holds s xs r → Holds s (positionsOf (s .args .table .now)) r
+whole s xs e r h = h ∙ table-read (s .args .q) (s .args .k) (s .args .b) xs (positionsOf (s .args .table .now)) e
 
 slice-aggregate-read-positions : tie.Need-slice-aggregate-read-positions
 slice-aggregate-read-positions c = search needs
@@ -14,8 +27,8 @@ slice-aggregate-read-positions c = search needs
 read-positions-requires : tie.Need-read-positions-requires
 read-positions-requires c κs = search needs
 
-array-share-prefix-positions : tie.Need-array-share-prefix-positions
-array-share-prefix-positions c = search needs
+array-share-prefix-few : tie.Need-array-share-prefix-few
+array-share-prefix-few c = search needs
 
 slice-aggregate-check-table : tie.Need-slice-aggregate-check-table
 slice-aggregate-check-table c = sym (length-take-le _ _ (omega arith))
@@ -25,8 +38,28 @@ check-table-requires c κs = search needs
 
 returns : tie.Need-returns
 returns c =
-    let a = c .before .before .before .before .before .before .args in
-    c .check-table .ensures ∙ table-read (a .q) (a .k) (a .b) _ (positionsOf (a .table .now)) (c .before .before .before .read-positions .ensures .1)
+    let r = c .before .before .before in
+    whole (r .before .before .before .before) _ (r .read-positions .ensures .1) _ (c .check-table .ensures)
+
+slice-aggregate-read-positions-2 : tie.Need-slice-aggregate-read-positions-2
+slice-aggregate-read-positions-2 c = search needs
+
+read-positions-requires-2 : tie.Need-read-positions-requires-2
+read-positions-requires-2 c κs = search needs
+
+array-share-prefix-positions : tie.Need-array-share-prefix-positions
+array-share-prefix-positions c = search needs
+
+slice-aggregate-check-table-2 : tie.Need-slice-aggregate-check-table-2
+slice-aggregate-check-table-2 c = sym (length-take-le _ _ (omega arith))
+
+check-table-requires-2 : tie.Need-check-table-requires-2
+check-table-requires-2 c κs = search needs
+
+returns-2 : tie.Need-returns-2
+returns-2 c =
+    let r = c .before .before .before in
+    whole (r .before .before .before .before) _ (r .read-positions2 .ensures .1) _ (c .check-table2 .ensures)
 
 pub qmtd-check-table-spec : {M : Type 1} → statement M
 qmtd-check-table-spec =
@@ -34,7 +67,13 @@ qmtd-check-table-spec =
     (tie.spec
     slice-aggregate-read-positions
     read-positions-requires
-    array-share-prefix-positions
+    array-share-prefix-few
     slice-aggregate-check-table
     check-table-requires
-    returns)
+    returns
+    slice-aggregate-read-positions-2
+    read-positions-requires-2
+    array-share-prefix-positions
+    slice-aggregate-check-table-2
+    check-table-requires-2
+    returns-2)

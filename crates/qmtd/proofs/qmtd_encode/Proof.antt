@@ -1,12 +1,34 @@
--- `qmtd_encode`: the outcome by the positions read is that by the table's, and so is the code word.
-use mathlib.Core.Path.{sym, _∙_}
+-- `qmtd_encode`: the outcome by the positions read is that by the table's, and so is the code word, in either buffer.
+use mathlib.Core.Path.{_≡_, sym, _∙_}
+use mathlib.Core.List.{List}
+use Prim.Native.Nat.{ℕ}
 use native.Mathlib.Omega.{arith}
 use lib.Seq.{length-take-le}
 use Rattle.model.specs.Bytes.{positionsOf}
+use Rattle.model.specs.Calls.{encodeOutcome}
+use Rattle.model.specs.Code.{codeOf}
+use Rattle.model.specs.Demand.{Encodes}
+use Rattle.octets.specs.Positions.{kept}
 use Rattle.octets.specs.Reads.{encode-read, encodes-read}
 use borrow.Author.Needs.{needs}
 use Rattle.qmtd.proofs.qmtd_encode.Statement.{statement}
 use Rattle.qmtd.proofs.qmtd_encode.Tie as tie
+
+-- what the contract says of the number r and the page that is left, x, with positions ps
+abbrev Holds : tie.Start → List ℕ → ℕ → List ℕ → Type 0
+Holds s ps r x =
+    let a = s .args in
+    let c = codeOf (a .q) (a .k) (a .b) ps in
+    (record { number = r; left = x } ≡ encodeOutcome c (a .«data» .now) (a .page .now)) × (r ≡ 0 → Encodes c (a .«data» .now) x)
+
+-- what holds with the positions that are read, xs, holds with those of the table
+whole : (s : tie.Start) (xs : List ℕ) → xs ≡ kept (positionsOf (s .args .table .now)) → (r : ℕ) (x : List ℕ) → Holds s xs r x → Holds s (positionsOf (s .args .table .now)) r x
+whole s xs e r x h =
+    let a = s .args in
+    let ps = positionsOf (a .table .now) in (
+      h .0 ∙ encode-read (a .q) (a .k) (a .b) xs ps e (a .«data» .now) (a .page .now),
+      λ z. encodes-read (a .q) (a .k) (a .b) xs ps e (a .«data» .now) x (h .1 z),
+    )
 
 slice-aggregate-read-positions : tie.Need-slice-aggregate-read-positions
 slice-aggregate-read-positions c = search needs
@@ -14,8 +36,8 @@ slice-aggregate-read-positions c = search needs
 read-positions-requires : tie.Need-read-positions-requires
 read-positions-requires c κs = search needs
 
-array-share-prefix-positions : tie.Need-array-share-prefix-positions
-array-share-prefix-positions c = search needs
+array-share-prefix-few : tie.Need-array-share-prefix-few
+array-share-prefix-few c = search needs
 
 slice-aggregate-encode : tie.Need-slice-aggregate-encode
 slice-aggregate-encode c = sym (length-take-le _ _ (omega arith))
@@ -29,11 +51,32 @@ same-length c = search needs
 returns : tie.Need-returns
 returns c =
     let p = c .before .before in
-    let a = p .before .before .before .before .before .before .before .before .before .args in
-    let e = p .before .before .before .before .read-positions .ensures .1 in (
-      p .encode .ensures .0 ∙ encode-read (a .q) (a .k) (a .b) _ (positionsOf (a .table .now)) e (a .«data» .now) (a .page .now),
-      λ z. encodes-read (a .q) (a .k) (a .b) _ (positionsOf (a .table .now)) e (a .«data» .now) _ (p .encode .ensures .1 z),
-    )
+    let r = p .before .before .before .before in
+    whole (r .before .before .before .before .before .before) _ (r .read-positions .ensures .1) _ _ (p .encode .ensures)
+
+slice-aggregate-read-positions-2 : tie.Need-slice-aggregate-read-positions-2
+slice-aggregate-read-positions-2 c = search needs
+
+read-positions-requires-2 : tie.Need-read-positions-requires-2
+read-positions-requires-2 c κs = search needs
+
+array-share-prefix-positions : tie.Need-array-share-prefix-positions
+array-share-prefix-positions c = search needs
+
+slice-aggregate-encode-2 : tie.Need-slice-aggregate-encode-2
+slice-aggregate-encode-2 c = sym (length-take-le _ _ (omega arith))
+
+encode-requires-2 : tie.Need-encode-requires-2
+encode-requires-2 c κs = search needs
+
+same-length-2 : tie.Need-same-length-2
+same-length-2 c = search needs
+
+returns-2 : tie.Need-returns-2
+returns-2 c =
+    let p = c .before .before in
+    let r = p .before .before .before .before in
+    whole (r .before .before .before .before .before .before) _ (r .read-positions2 .ensures .1) _ _ (p .encode2 .ensures)
 
 pub qmtd-encode-spec : {M : Type 1} → statement M
 qmtd-encode-spec =
@@ -41,8 +84,15 @@ qmtd-encode-spec =
     (tie.spec
     slice-aggregate-read-positions
     read-positions-requires
-    array-share-prefix-positions
+    array-share-prefix-few
     slice-aggregate-encode
     encode-requires
     same-length
-    returns)
+    returns
+    slice-aggregate-read-positions-2
+    read-positions-requires-2
+    array-share-prefix-positions
+    slice-aggregate-encode-2
+    encode-requires-2
+    same-length-2
+    returns-2)

@@ -1,12 +1,25 @@
--- `qmtd_syndrome`: the outcome by the positions read is that by the table's.
-use mathlib.Core.Path.{sym, _∙_}
+-- `qmtd_syndrome`: the outcome by the positions read is that by the table's, in either buffer.
+use mathlib.Core.Path.{_≡_, sym, _∙_}
+use mathlib.Core.List.{List}
+use Prim.Native.Nat.{ℕ}
 use native.Mathlib.Omega.{arith}
 use lib.Seq.{length-take-le}
 use Rattle.model.specs.Bytes.{positionsOf}
+use Rattle.model.specs.Calls.{Outcome, syndromeOutcome}
+use Rattle.model.specs.Code.{codeOf}
+use Rattle.octets.specs.Positions.{kept}
 use Rattle.octets.specs.Reads.{syndrome-read}
 use borrow.Author.Needs.{needs}
 use Rattle.qmtd.proofs.qmtd_syndrome.Statement.{statement}
 use Rattle.qmtd.proofs.qmtd_syndrome.Tie as tie
+
+-- what the contract says of the outcome o, with positions ps
+abbrev Holds : tie.Start → List ℕ → Outcome (List ℕ) → Type 0
+Holds s ps o = o ≡ syndromeOutcome (codeOf (s .args .q) (s .args .k) (s .args .b) ps) (s .args .page .now) (s .args .syndrome .now)
+
+-- what holds with the positions that are read, xs, holds with those of the table
+whole : (s : tie.Start) (xs : List ℕ) → xs ≡ kept (positionsOf (s .args .table .now)) → (o : Outcome (List ℕ)) → Holds s xs o → Holds s (positionsOf (s .args .table .now)) o
+whole s xs e o h = let a = s .args in h ∙ syndrome-read (a .q) (a .k) (a .b) xs (positionsOf (a .table .now)) e (a .page .now) (a .syndrome .now)
 
 slice-aggregate-read-positions : tie.Need-slice-aggregate-read-positions
 slice-aggregate-read-positions c = search needs
@@ -14,8 +27,8 @@ slice-aggregate-read-positions c = search needs
 read-positions-requires : tie.Need-read-positions-requires
 read-positions-requires c κs = search needs
 
-array-share-prefix-positions : tie.Need-array-share-prefix-positions
-array-share-prefix-positions c = search needs
+array-share-prefix-few : tie.Need-array-share-prefix-few
+array-share-prefix-few c = search needs
 
 slice-aggregate-syndrome : tie.Need-slice-aggregate-syndrome
 slice-aggregate-syndrome c = sym (length-take-le _ _ (omega arith))
@@ -29,9 +42,32 @@ same-length c = search needs
 returns : tie.Need-returns
 returns c =
     let p = c .before .before in
-    let a = p .before .before .before .before .before .before .before .before .before .args in
-    p .syndrome .ensures ∙ syndrome-read (a .q) (a .k) (a .b) _ (positionsOf (a .table .now)) (p .before .before .before .before .read-positions .ensures .1) (a .page .now)
-    (a .syndrome .now)
+    let r = p .before .before .before .before in
+    whole (r .before .before .before .before .before .before) _ (r .read-positions .ensures .1) _ (p .syndrome .ensures)
+
+slice-aggregate-read-positions-2 : tie.Need-slice-aggregate-read-positions-2
+slice-aggregate-read-positions-2 c = search needs
+
+read-positions-requires-2 : tie.Need-read-positions-requires-2
+read-positions-requires-2 c κs = search needs
+
+array-share-prefix-positions : tie.Need-array-share-prefix-positions
+array-share-prefix-positions c = search needs
+
+slice-aggregate-syndrome-2 : tie.Need-slice-aggregate-syndrome-2
+slice-aggregate-syndrome-2 c = sym (length-take-le _ _ (omega arith))
+
+syndrome-requires-2 : tie.Need-syndrome-requires-2
+syndrome-requires-2 c κs = search needs
+
+same-length-2 : tie.Need-same-length-2
+same-length-2 c = search needs
+
+returns-2 : tie.Need-returns-2
+returns-2 c =
+    let p = c .before .before in
+    let r = p .before .before .before .before in
+    whole (r .before .before .before .before .before .before) _ (r .read-positions2 .ensures .1) _ (p .syndrome3 .ensures)
 
 pub qmtd-syndrome-spec : {M : Type 1} → statement M
 qmtd-syndrome-spec =
@@ -39,8 +75,15 @@ qmtd-syndrome-spec =
     (tie.spec
     slice-aggregate-read-positions
     read-positions-requires
-    array-share-prefix-positions
+    array-share-prefix-few
     slice-aggregate-syndrome
     syndrome-requires
     same-length
-    returns)
+    returns
+    slice-aggregate-read-positions-2
+    read-positions-requires-2
+    array-share-prefix-positions
+    slice-aggregate-syndrome-2
+    syndrome-requires-2
+    same-length-2
+    returns-2)
