@@ -1,17 +1,17 @@
-// The C calls: they read positions and write margins and counts as bytes, and call the Rattle functions; nothing is decided twice.
+// The C calls: they read positions and write margins, counts and changes as bytes, and call the Rattle functions; nothing is decided twice.
 ghost use mathlib.Core.Path.{_≡_};
 ghost use Rattle.model.specs.Code.{codeOf};
 ghost use Rattle.model.specs.Decoder.{stateBy, decodedCounts};
-ghost use Rattle.model.specs.Calls.{tableAnswer, encodeOutcome, syndromeOutcome};
-ghost use Rattle.model.specs.Bytes.{positionsOf, cDecodeOutcome};
-ghost use Rattle.model.specs.Demand.{Encodes, DecodeFalls, DecodeRecovers};
+ghost use Rattle.model.specs.Calls.{tableAnswer, encodeOutcome, syndromeOutcome, openOutcome};
+ghost use Rattle.model.specs.Bytes.{positionsOf, cDecodeOutcome, cPassOutcome};
+ghost use Rattle.model.specs.Demand.{Encodes, DecodeFalls, DecodeRecovers, PassFalls};
 
 // The version: major times 10,000 plus minor times 100 plus patch.
 #[no_mangle]
 pub extern "C" fn qmtd_version() -> u32
-    ensures { λ r. ⌜ r ≡ 500 ⌝ }
+    ensures { λ r. ⌜ r ≡ 600 ⌝ }
 {
-    500
+    600
 }
 
 // Checks a code table. A small table is read into a small buffer, which costs less to clear.
@@ -116,5 +116,65 @@ pub extern "C" fn qmtd_decode(
         difference,
         margins,
         counts,
+    )
+}
+
+// Opens a page. A small table is read into a small buffer, which costs less to clear.
+#[no_mangle]
+pub extern "C" fn qmtd_open(
+    q: u32,
+    k: u32,
+    b: u32,
+    table: &[u8],
+    page: &[u8],
+    result: &mut [u8],
+    syndrome: &mut [u8],
+    difference: &mut [u8],
+) -> u32
+    ensures { λ r. ⌜ record { number = r; left = stateBy (now (result .exit)) (now (syndrome .exit)) (now (difference .exit)) }
+        ≡ openOutcome (codeOf q k b (positionsOf (now (table .entry)))) (now (page .entry))
+        (stateBy (now (result .entry)) (now (syndrome .entry)) (now (difference .entry))) ⌝ }
+{
+    if table.len() <= 64 {
+        let mut few = [0u16; 32];
+        let n = octets::read_positions(table, &mut few);
+        return opener::open(q, k, b, &few[..n], page, result, syndrome, difference);
+    }
+    let mut positions = [0u16; 256];
+    let n = octets::read_positions(table, &mut positions);
+    opener::open(q, k, b, &positions[..n], page, result, syndrome, difference)
+}
+
+// Makes one pass.
+#[no_mangle]
+pub extern "C" fn qmtd_pass(
+    q: u32,
+    k: u32,
+    b: u32,
+    table: &[u8],
+    threshold: u32,
+    result: &mut [u8],
+    syndrome: &mut [u8],
+    difference: &mut [u8],
+    changes: &mut [u8],
+) -> u32
+    ensures outcome { λ r. ⌜ record {
+      number = r;
+      left = record { state = stateBy (now (result .exit)) (now (syndrome .exit)) (now (difference .exit)); changes = now (changes .exit) };
+    } ≡ cPassOutcome (codeOf q k b (positionsOf (now (table .entry)))) threshold
+        (stateBy (now (result .entry)) (now (syndrome .entry)) (now (difference .entry))) (now (changes .entry)) ⌝ }
+    ensures falling { λ r. ⌜ (r ≡ 0 → PassFalls (codeOf q k b (positionsOf (now (table .entry)))) threshold
+        (stateBy (now (result .entry)) (now (syndrome .entry)) (now (difference .entry)))) ⌝ }
+{
+    c_passing::pass(
+        q,
+        k,
+        b,
+        table,
+        threshold,
+        result,
+        syndrome,
+        difference,
+        changes,
     )
 }
