@@ -2,8 +2,8 @@
 use borrow.Author.Needs.{needs}
 use native.Mathlib.Omega.{arith}
 use Rattle.params.specs.Sizes.{sizes-fit}
-use Rattle.c_decoder.proofs.decode_sized.Statement.{statement}
-use Rattle.c_decoder.proofs.decode_sized.Tie as tie
+use Rattle.c_sized.proofs.decode_sized.Statement.{statement}
+use Rattle.c_sized.proofs.decode_sized.Tie as tie
 
 data-count-requires : tie.Need-data-count-requires
 data-count-requires c κs =
