@@ -1,4 +1,4 @@
-// The C calls: they read positions and write margins, counts and changes as bytes, and call the Rattle functions; nothing is decided twice.
+// The C calls, exported: each is the function of its C form.
 ghost use mathlib.Core.Path.{_≡_};
 ghost use Rattle.model.specs.Code.{codeOf};
 ghost use Rattle.model.specs.Decoder.{stateBy, decodedCounts};
@@ -14,22 +14,15 @@ pub extern "C" fn qmtd_version() -> u32
     600
 }
 
-// Checks a code table. A small table is read into a small buffer, which costs less to clear.
+// Checks a code table.
 #[no_mangle]
 pub extern "C" fn qmtd_check_table(q: u32, k: u32, b: u32, table: &[u8]) -> u32
     ensures { λ r. ⌜ r ≡ tableAnswer (codeOf q k b (positionsOf (now (table .entry)))) ⌝ }
 {
-    if table.len() <= 64 {
-        let mut few = [0u16; 32];
-        let n = octets::read_positions(table, &mut few);
-        return table::check_table(q, k, b, &few[..n]);
-    }
-    let mut positions = [0u16; 256];
-    let n = octets::read_positions(table, &mut positions);
-    table::check_table(q, k, b, &positions[..n])
+    c_page::check_table(q, k, b, table)
 }
 
-// Encodes data into a page. A small table is read into a small buffer, which costs less to clear.
+// Encodes data into a page.
 #[no_mangle]
 pub extern "C" fn qmtd_encode(
     q: u32,
@@ -43,17 +36,10 @@ pub extern "C" fn qmtd_encode(
         ≡ encodeOutcome (codeOf q k b (positionsOf (now (table .entry)))) (now («data» .entry)) (now (page .entry)) ⌝ }
     ensures word { λ r. ⌜ (r ≡ 0 → Encodes (codeOf q k b (positionsOf (now (table .entry)))) (now («data» .entry)) (now (page .exit))) ⌝ }
 {
-    if table.len() <= 64 {
-        let mut few = [0u16; 32];
-        let n = octets::read_positions(table, &mut few);
-        return page::encode(q, k, b, &few[..n], data, page);
-    }
-    let mut positions = [0u16; 256];
-    let n = octets::read_positions(table, &mut positions);
-    page::encode(q, k, b, &positions[..n], data, page)
+    c_page::encode(q, k, b, table, data, page)
 }
 
-// Works out the syndrome of a page. A small table is read into a small buffer, which costs less to clear.
+// Works out the syndrome of a page.
 #[no_mangle]
 pub extern "C" fn qmtd_syndrome(
     q: u32,
@@ -66,14 +52,7 @@ pub extern "C" fn qmtd_syndrome(
     ensures { λ r. ⌜ record { number = r; left = now (syndrome .exit) }
         ≡ syndromeOutcome (codeOf q k b (positionsOf (now (table .entry)))) (now (page .entry)) (now (syndrome .entry)) ⌝ }
 {
-    if table.len() <= 64 {
-        let mut few = [0u16; 32];
-        let n = octets::read_positions(table, &mut few);
-        return page::syndrome(q, k, b, &few[..n], page, syndrome);
-    }
-    let mut positions = [0u16; 256];
-    let n = octets::read_positions(table, &mut positions);
-    page::syndrome(q, k, b, &positions[..n], page, syndrome)
+    c_page::syndrome(q, k, b, table, page, syndrome)
 }
 
 // Decodes a page.
@@ -119,7 +98,7 @@ pub extern "C" fn qmtd_decode(
     )
 }
 
-// Opens a page. A small table is read into a small buffer, which costs less to clear.
+// Opens a page.
 #[no_mangle]
 pub extern "C" fn qmtd_open(
     q: u32,
@@ -135,14 +114,7 @@ pub extern "C" fn qmtd_open(
         ≡ openOutcome (codeOf q k b (positionsOf (now (table .entry)))) (now (page .entry))
         (stateBy (now (result .entry)) (now (syndrome .entry)) (now (difference .entry))) ⌝ }
 {
-    if table.len() <= 64 {
-        let mut few = [0u16; 32];
-        let n = octets::read_positions(table, &mut few);
-        return opener::open(q, k, b, &few[..n], page, result, syndrome, difference);
-    }
-    let mut positions = [0u16; 256];
-    let n = octets::read_positions(table, &mut positions);
-    opener::open(q, k, b, &positions[..n], page, result, syndrome, difference)
+    c_page::open(q, k, b, table, page, result, syndrome, difference)
 }
 
 // Makes one pass.

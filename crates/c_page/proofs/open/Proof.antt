@@ -1,4 +1,4 @@
--- `qmtd_open`: the outcome by the positions read is that by the table's, in either buffer.
+-- `open`: the outcome by the positions read is that by the table's, in either buffer.
 use mathlib.Core.Path.{_≡_, sym, _∙_}
 use mathlib.Core.List.{List}
 use Prim.Native.Nat.{ℕ}
@@ -11,8 +11,8 @@ use Rattle.model.specs.Decoder.{State, stateBy}
 use Rattle.octets.specs.Positions.{kept}
 use Rattle.octets.specs.Reads.{open-read}
 use borrow.Author.Needs.{needs}
-use Rattle.qmtd.proofs.qmtd_open.Statement.{statement}
-use Rattle.qmtd.proofs.qmtd_open.Tie as tie
+use Rattle.c_page.proofs.open.Statement.{statement}
+use Rattle.c_page.proofs.open.Tie as tie
 
 -- what the contract says of the outcome o, with positions ps
 abbrev Holds : tie.Start → List ℕ → Outcome State → Type 0
@@ -86,8 +86,8 @@ returns-2 c =
     let r = p .before .before .before .before .before .before in
     whole (r .before .before .before .before .before .before .before .before) _ (r .read-positions2 .ensures .1) _ (p .open2 .ensures)
 
-pub qmtd-open-spec : {M : Type 1} → statement M
-qmtd-open-spec =
+pub open-spec : {M : Type 1} → statement M
+open-spec =
     tie.close
     (tie.spec
     slice-aggregate-read-positions
