@@ -1,5 +1,5 @@
 -- The places of data symbols, branch by branch: by their number, and one after the other.
-use mathlib.Core.Path.{_≡_, ap, sym, subst, _∙_}
+use mathlib.Core.Path.{_≡_, refl, ap, sym, subst, _∙_}
 use mathlib.Core.Logic.{_≢_}
 use mathlib.Core.List.{List}
 use Prim.Native.Nat.{ℕ, suc, _+_, _*_, _-_, _/_, _%_, _<_, _≤_}
@@ -27,6 +27,10 @@ placeAt c j = record {
   first = j / c .k * checksEach c;
   last = j / c .k * checksEach c + checksEach c;
 }
+
+-- its run, as it is lent
+abbrev pub runAt : Place → List ℕ → List ℕ
+runAt p ps = take (p .last - p .first) (drop (p .first) ps)
 
 -- the next number in the same branch, and the same number in the next branch
 abbrev pub alongPlace : Place → Place
@@ -121,22 +125,19 @@ module _ {c : Code} {p : Place} (w : Walk c p) where
 
 -- ---- a walk branch by branch
 
--- a place of a branch, or the one after its last symbol
-pub record InBranch (c : Code) (p : Place) : Type 0 where
-  pub branch : ℕ
-  pub inside : branch < c .b
-  pub start-is : p .start ≡ branch * c .k
-  pub end-is : p .end ≡ branch * c .k + c .k
-  pub first-is : p .first ≡ branch * checksEach c
-  pub last-is : p .last ≡ branch * checksEach c + checksEach c
-  pub low : p .start ≤ p .symbol
-  pub high : p .symbol ≤ p .end
-
 -- the first place of a branch, or the one after all branches
 pub record AtBranch (c : Code) (p : Place) : Type 0 where
   pub branch : ℕ
   pub within : branch ≤ c .b
   pub here : p ≡ record { symbol = branch * c .k; start = branch * c .k; end = branch * c .k + c .k; first = branch * checksEach c; last = branch * checksEach c + checksEach c }
+
+-- a place p of the branch whose first place is o, or the one after its last symbol
+pub record InBranch (c : Code) (o p : Place) : Type 0 where
+  pub opens : AtBranch c o
+  pub inside : opens .branch < c .b
+  pub same : p ≡ record { symbol = p .symbol; start = o .start; end = o .end; first = o .first; last = o .last }
+  pub low : o .symbol ≤ p .symbol
+  pub high : p .symbol ≤ o .end
 
 pub branch-first : (c : Code) (each : ℕ) (p : Place) → each ≡ checksEach c → p ≡ record { symbol = 0; start = 0; end = c .k; first = 0; last = each } → AtBranch c p
 branch-first c each p e f = record {
@@ -152,87 +153,112 @@ branch-first c each p e f = record {
       });
 }
 
-module _ {c : Code} {p : Place} (t : TableLimits c) (w : AtBranch c p) where
-  number : p .symbol ≡ w .branch * c .k
+module _ {c : Code} {o : Place} (t : TableLimits c) (w : AtBranch c o) where
+  number : o .symbol ≡ w .branch * c .k
   number = ap (λ (x : Place). x .symbol) (w .here)
 
-  -- a branch is next
-  pub branch-next : p .symbol < dataCount c → InBranch c p
-  branch-next h = record {
-    branch = w .branch;
-    inside = elim (decLt (w .branch) (c .b)) as (λ o. w .branch < c .b)
-        [ yes l ↦ l | no l ↦ absurd (omega (arith, h, number, mul-le-mul-right (c .k) (let z : c .b ≤ w .branch = omega arith in z))) ];
-    start-is = ap (λ (x : Place). x .start) (w .here);
-    end-is = ap (λ (x : Place). x .end) (w .here);
-    first-is = ap (λ (x : Place). x .first) (w .here);
-    last-is = ap (λ (x : Place). x .last) (w .here);
-    low = omega (arith, number, ap (λ (x : Place). x .start) (w .here));
-    high = omega (arith, number, ap (λ (x : Place). x .end) (w .here));
-  }
-
   -- a branch has a symbol
-  pub branch-some : p .symbol < p .end
+  pub branch-some : o .symbol < o .end
   branch-some = omega (arith, number, ap (λ (x : Place). x .end) (w .here), t .sizes .k-low)
 
+  -- a branch is next
+  pub branch-next : o .symbol < dataCount c → InBranch c o o
+  branch-next h = record {
+    opens = w;
+    inside = elim (decLt (w .branch) (c .b)) as (λ x. w .branch < c .b)
+        [ yes l ↦ l | no l ↦ absurd (omega (arith, h, number, mul-le-mul-right (c .k) (let z : c .b ≤ w .branch = omega arith in z))) ];
+    same = refl;
+    low = omega arith;
+    high = omega (arith, branch-some);
+  }
+
   -- all branches are passed
-  pub branch-over : dataCount c ≤ p .symbol → p .symbol ≡ dataCount c
+  pub branch-over : dataCount c ≤ o .symbol → o .symbol ≡ dataCount c
   branch-over h = omega (arith, number, mul-le-mul-right (c .k) (w .within))
 
-module _ {c : Code} {p : Place} (t : TableLimits c) (w : InBranch c p) where
+-- the next place has fewer symbols of its branch left
+pub along-less : (p q : Place) → p .symbol < p .end → q ≡ alongPlace p → q .end - q .symbol < p .end - p .symbol
+along-less p q h e = omega (arith, ap (λ (x : Place). x .symbol) e, ap (λ (x : Place). x .end) e)
+
+module _ {c : Code} {o p : Place} (w : InBranch c o p) where
+  same-end : p .end ≡ o .end
+  same-end = ap (λ (x : Place). x .end) (w .same)
+
+  -- one run
+  pub same-run : (ps : List ℕ) → runAt o ps ≡ runAt p ps
+  same-run ps = ap (λ (x : Place). runAt x ps) (sym (w .same))
+
+module _ {c : Code} {o p : Place} (t : TableLimits c) (w : InBranch c o p) where
   abbrev r : ℕ
-  r = w .branch
+  r = w .opens .branch
+
+  start-is : o .start ≡ r * c .k
+  start-is = ap (λ (x : Place). x .start) (w .opens .here)
+
+  end-is : o .end ≡ r * c .k + c .k
+  end-is = ap (λ (x : Place). x .end) (w .opens .here)
+
+  first-is : o .first ≡ r * checksEach c
+  first-is = ap (λ (x : Place). x .first) (w .opens .here)
+
+  last-is : o .last ≡ r * checksEach c + checksEach c
+  last-is = ap (λ (x : Place). x .last) (w .opens .here)
 
   -- a symbol is next
   pub in-placed : p .symbol < p .end → Placed c p
   in-placed h =
       let i : ℕ = p .symbol - r * c .k in
-      let l : i < c .k = omega (arith, w .start-is, w .end-is, w .low) in
-      let e : p .symbol ≡ r * c .k + i = omega (arith, w .start-is, w .low) in
+      let n : o .symbol ≡ r * c .k = number t (w .opens) in
+      let l : i < c .k = omega (arith, n, end-is, same-end w, w .low) in
+      let e : p .symbol ≡ r * c .k + i = omega (arith, n, w .low) in
       let d : p .symbol / c .k ≡ r = ap (λ (x : ℕ). x / c .k) e ∙ digits-div r {m = c .k} l in
       record {
         inside = omega (arith, e, branch-inside c r (w .inside));
-        here = place-by (p .symbol) (w .start-is ∙ ap (λ (x : ℕ). x * c .k) (sym d)) (w .end-is ∙ ap (λ (x : ℕ). x * c .k + c .k) (sym d))
-            (w .first-is ∙ ap (λ (x : ℕ). x * checksEach c) (sym d)) (w .last-is ∙ ap (λ (x : ℕ). x * checksEach c + checksEach c) (sym d));
+        here = w .same ∙ place-by (p .symbol) (start-is ∙ ap (λ (x : ℕ). x * c .k) (sym d)) (end-is ∙ ap (λ (x : ℕ). x * c .k + c .k) (sym d))
+            (first-is ∙ ap (λ (x : ℕ). x * checksEach c) (sym d)) (last-is ∙ ap (λ (x : ℕ). x * checksEach c + checksEach c) (sym d));
       }
 
-  pub in-along : p .symbol < p .end → (q : Place) → q ≡ alongPlace p → InBranch c q
+  -- the next place
+  pub in-along : p .symbol < p .end → (q : Place) → q ≡ alongPlace p → InBranch c o q
   in-along h q e = rw e (record {
-    branch = r;
+    opens = w .opens;
     inside = w .inside;
-    start-is = w .start-is;
-    end-is = w .end-is;
-    first-is = w .first-is;
-    last-is = w .last-is;
+    same = ap alongPlace (w .same);
     low = omega (arith, w .low);
-    high = omega arith;
+    high = omega (arith, same-end w);
   })
 
-  -- its symbols are passed
+  -- its symbols are passed: the next branch, with fewer symbols left of n
   pub in-onward : p .end ≤ p .symbol → (q : Place) → q ≡ onwardPlace (c .k) p → AtBranch c q
   in-onward h q e =
-      let s : p .symbol ≡ r * c .k + c .k = omega (arith, w .end-is, w .high) in
+      let s : p .symbol ≡ r * c .k + c .k = omega (arith, end-is, same-end w, w .high) in
       let y : suc r * c .k ≡ r * c .k + c .k = omega arith in
       let z : suc r * checksEach c ≡ r * checksEach c + checksEach c = omega arith in
       record {
         branch = suc r;
         within = w .inside;
-        here = e ∙ (λ o. record {
-          symbol = (s ∙ sym y) o;
-          start = (w .end-is ∙ sym y) o;
-          end = (let x : p .end + c .k ≡ suc r * c .k + c .k = omega (arith, w .end-is, y) in x) o;
-          first = (w .last-is ∙ sym z) o;
-          last = (let x : p .last + (p .last - p .first) ≡ suc r * checksEach c + checksEach c = omega (arith, w .first-is, w .last-is, z) in x) o;
+        here = e ∙ ap (onwardPlace (c .k)) (w .same) ∙ (λ x. record {
+          symbol = (s ∙ sym y) x;
+          start = (end-is ∙ sym y) x;
+          end = (let u : o .end + c .k ≡ suc r * c .k + c .k = omega (arith, end-is, y) in u) x;
+          first = (last-is ∙ sym z) x;
+          last = (let u : o .last + (o .last - o .first) ≡ suc r * checksEach c + checksEach c = omega (arith, first-is, last-is, z) in u) x;
         });
       }
+
+  pub onward-less : p .end ≤ p .symbol → (q : Place) → q ≡ onwardPlace (c .k) p → (n : ℕ) → o .symbol < n → n - q .symbol < n - o .symbol
+  onward-less h q e n l = omega (arith, ap (λ (x : Place). x .symbol) e, same-end w, branch-some t (w .opens))
 
   -- what the step into the next branch asks
   pub onward-fits : (c .k ≤ 4096) × (p .end ≤ 8192) × (p .first ≤ p .last) × (p .last ≤ 256)
   onward-fits =
-      let s = t .sizes in (
+      let s = t .sizes in
+      let f : p .first ≡ o .first = ap (λ (x : Place). x .first) (w .same) in
+      let l : p .last ≡ o .last = ap (λ (x : Place). x .last) (w .same) in (
         s .k-high,
-        omega (arith, w .end-is, branch-inside c r (w .inside), s .data-high),
-        omega (arith, w .first-is, w .last-is),
-        omega (arith, w .last-is, run-inside c s r (w .inside), s .runs, s .J-high, mul-le-mul-right (checksEach c) (s .b-high)),
+        omega (arith, end-is, same-end w, branch-inside c r (w .inside), s .data-high),
+        omega (arith, f, l, first-is, last-is),
+        omega (arith, l, last-is, run-inside c s r (w .inside), s .runs, s .J-high, mul-le-mul-right (checksEach c) (s .b-high)),
       )
 
 -- what a place is good for: its run, and the checks there
@@ -246,10 +272,10 @@ pub record Found (c : Code) (s : List ℕ) (p : Place) : Type 0 where
   pub few : p .last ≤ 256
   pub each : p .last - p .first ≡ checksEach c
   -- of the run as it is lent
-  pub run-length : length (take (p .last - p .first) (drop (p .first) (c .positions))) ≡ p .last - p .first
-  pub position : (i : ℕ) → i < p .last - p .first → getD (c .positions) (p .first + i) 0 ≡ getD (take (p .last - p .first) (drop (p .first) (c .positions))) i 0
-  pub checks-lent : AtChecks (c .k) (take (p .last - p .first) (drop (p .first) (c .positions))) s
-  pub checks-are : checksBy (c .k) (take (p .last - p .first) (drop (p .first) (c .positions))) (p .symbol - p .start) ≡ checksOf c (p .symbol)
+  pub run-length : length (runAt p (c .positions)) ≡ p .last - p .first
+  pub position : (i : ℕ) → i < p .last - p .first → getD (c .positions) (p .first + i) 0 ≡ getD (runAt p (c .positions)) i 0
+  pub checks-lent : AtChecks (c .k) (runAt p (c .positions)) s
+  pub checks-are : checksBy (c .k) (runAt p (c .positions)) (p .symbol - p .start) ≡ checksOf c (p .symbol)
 
 -- what the step to the next place asks
 pub next-fits : {c : Code} {s : List ℕ} {p : Place} → TableLimits c → Placed c p → Found c s p
@@ -275,7 +301,7 @@ module _ {c : Code} {s : List ℕ} (t : AtTable c s) where
       let i : j - p .start ≡ j % c .k = omega (arith, o, div-add-mod' j (c .k)) in
       let b = branch-of c (t .table) j (w .inside) in
       let n = run-inside c z (j / c .k) b in
-      let run : take (p .last - p .first) (drop (p .first) (c .positions)) ≡ branchAt c (j / c .k) =
+      let run : runAt p (c .positions) ≡ branchAt c (j / c .k) =
       ap (λ (x : ℕ). take (x - p .first) (drop (p .first) (c .positions))) e ∙ run-part c (j / c .k) (p .first) f in
       let a = at-run c (t .table) (j / c .k) b s (t .len) in
       record {
