@@ -1,20 +1,16 @@
--- The places of data symbols, branch by branch: by their number, and one after the other.
+-- The places of data symbols: by their number, and one after the other, branch by branch.
 use mathlib.Core.Path.{_≡_, refl, ap, sym, subst, _∙_}
-use mathlib.Core.Logic.{_≢_}
 use mathlib.Core.List.{List}
 use Prim.Native.Nat.{ℕ, suc, _+_, _*_, _-_, _/_, _%_, _<_, _≤_}
 use native.Mathlib.Nat.{mod-lt, div-add-mod', mul-le-mul-right, zero-mul}
-use native.Mathlib.Decide.{ℕ-discrete, decLt}
+use native.Mathlib.Decide.{decLt}
 use native.Mathlib.Omega.{arith}
 use lib.Arith.{digits-div}
-use lib.Dec.{eqb}
 use lib.ListN.{length, getD, take, drop, length-take, length-drop}
 use lib.Seq.{getD-take, getD-drop}
 use Rattle.model.specs.Code.{Code, dataCount, checkCount, checksEach, branchAt, checksBy, checksOf}
 use Rattle.model.specs.Limits.{TableLimits}
-use Rattle.model.specs.Symbols.{choose}
 use Rattle.theory.specs.Branches.{branch-of, branch-inside, run-part, run-inside}
-use Rattle.theory.specs.Counting.{eqb-yes, eqb-no}
 use Rattle.checks.specs.Checks.{AtChecks, at-run}
 use Rattle.checks.specs.declared.Place.{Place}
 
@@ -28,7 +24,7 @@ placeAt c j = record {
   last = j / c .k * checksEach c + checksEach c;
 }
 
--- its run, as it is lent
+-- the run of a place, as it is lent
 abbrev pub runAt : Place → List ℕ → List ℕ
 runAt p ps = take (p .last - p .first) (drop (p .first) ps)
 
@@ -39,51 +35,10 @@ alongPlace p = record { symbol = p .symbol + 1; start = p .start; end = p .end; 
 abbrev pub onwardPlace : ℕ → Place → Place
 onwardPlace k p = record { symbol = p .symbol; start = p .end; end = p .end + k; first = p .last; last = p .last + (p .last - p .first) }
 
--- the place after another
-unfoldable pub nextPlace : ℕ → Place → Place
-nextPlace k p = choose (eqb (p .symbol + 1) (p .end)) (onwardPlace k (alongPlace p)) (alongPlace p)
-
--- by these two steps
-module _ (k : ℕ) (p q : Place) (e : q ≡ alongPlace p) where
-  pub next-onward : q .symbol ≡ q .end → onwardPlace k q ≡ nextPlace k p
-  unfolding nextPlace
-  next-onward h = rw (eqb-yes (p .symbol + 1) (p .end) (sym (ap (λ (x : Place). x .symbol) e) ∙ h ∙ ap (λ (x : Place). x .end) e)) (ap (onwardPlace k) e)
-
-  pub next-along : q .symbol ≢ q .end → q ≡ nextPlace k p
-  unfolding nextPlace
-  next-along n = rw (eqb-no (p .symbol + 1) (p .end) (λ h. n (ap (λ (x : Place). x .symbol) e ∙ h ∙ sym (ap (λ (x : Place). x .end) e)))) e
-
 -- two places of one number, by the branch's symbols and its run
 place-by : (j : ℕ) {s s′ e e′ f f′ l l′ : ℕ} → s ≡ s′ → e ≡ e′ → f ≡ f′ → l ≡ l′
     → _≡_ {A = Place} (record { symbol = j; start = s; end = e; first = f; last = l }) (record { symbol = j; start = s′; end = e′; first = f′; last = l′ })
 place-by j a b c d = λ o. record { symbol = j; start = a o; end = b o; first = c o; last = d o }
-
--- the first place
-pub place-first : (c : Code) → 1 ≤ c .k → (each : ℕ) → each ≡ checksEach c
-    → _≡_ {A = Place} (record { symbol = 0; start = 0; end = c .k; first = 0; last = each }) (placeAt c 0)
-place-first c h each e =
-    let d : 0 / c .k ≡ 0 = ap (λ (x : ℕ). x / c .k) (let z : 0 ≡ 0 * c .k + 0 = omega (arith, zero-mul (c .k)) in z) ∙ digits-div 0 {m = c .k} h in
-    let y : 0 / c .k * c .k ≡ 0 = ap (λ (x : ℕ). x * c .k) d ∙ zero-mul (c .k) in
-    let z : 0 / c .k * checksEach c ≡ 0 = ap (λ (x : ℕ). x * checksEach c) d ∙ zero-mul (checksEach c) in
-    place-by 0 (sym y) (omega (arith, y)) (sym z) (omega (arith, z))
-
--- and each next one
-pub place-next : (c : Code) → 1 ≤ c .k → (j : ℕ) → nextPlace (c .k) (placeAt c j) ≡ placeAt c (j + 1)
-unfolding nextPlace
-place-next c h j = elim (ℕ-discrete (j + 1) (j / c .k * c .k + c .k)) as (λ o. nextPlace (c .k) (placeAt c j) ≡ placeAt c (j + 1)) [
-  | yes e ↦ rw (eqb-yes (j + 1) (j / c .k * c .k + c .k) e)
-      (let w : j + 1 ≡ suc (j / c .k) * c .k + 0 = omega arith in
-      let d : (j + 1) / c .k ≡ suc (j / c .k) = ap (λ (x : ℕ). x / c .k) w ∙ digits-div (suc (j / c .k)) {m = c .k} h in
-      let g : (j + 1) / c .k * c .k ≡ j / c .k * c .k + c .k = ap (λ (x : ℕ). x * c .k) d ∙ omega arith in
-      let f : (j + 1) / c .k * checksEach c ≡ j / c .k * checksEach c + checksEach c = ap (λ (x : ℕ). x * checksEach c) d ∙ omega arith in
-      place-by (j + 1) (sym g) (omega (arith, g)) (sym f) (omega (arith, f)))
-  | no n ↦ rw (eqb-no (j + 1) (j / c .k * c .k + c .k) n)
-      (let l : j % c .k + 1 < c .k = omega (arith, div-add-mod' j (c .k), mod-lt j {m = c .k} h) in
-      let w : j + 1 ≡ j / c .k * c .k + (j % c .k + 1) = omega (arith, div-add-mod' j (c .k)) in
-      let d : (j + 1) / c .k ≡ j / c .k = ap (λ (x : ℕ). x / c .k) w ∙ digits-div (j / c .k) {m = c .k} l in
-      place-by (j + 1) (ap (λ (x : ℕ). x * c .k) (sym d)) (ap (λ (x : ℕ). x * c .k + c .k) (sym d)) (ap (λ (x : ℕ). x * checksEach c) (sym d))
-      (ap (λ (x : ℕ). x * checksEach c + checksEach c) (sym d)))
-]
 
 -- ---- places of a table within its limits
 
@@ -96,32 +51,6 @@ pub record AtTable (c : Code) (s : List ℕ) : Type 0 where
 pub record Placed (c : Code) (p : Place) : Type 0 where
   pub inside : p .symbol < dataCount c
   pub here : p ≡ placeAt c (p .symbol)
-
--- ---- a walk over all places, from the first
-
--- the place of a data symbol, or the one after the last
-pub record Walk (c : Code) (p : Place) : Type 0 where
-  pub within : p .symbol ≤ dataCount c
-  pub here : p ≡ placeAt c (p .symbol)
-
-pub walk-first : (c : Code) → TableLimits c → (each : ℕ) (p : Place) → each ≡ checksEach c → p ≡ record { symbol = 0; start = 0; end = c .k; first = 0; last = each } → Walk c p
-walk-first c t each p e f =
-    let w : p ≡ placeAt c 0 = f ∙ place-first c (t .sizes .k-low) each e in
-    let z : p .symbol ≡ 0 = ap (λ (x : Place). x .symbol) w in
-    record { within = omega arith; here = w ∙ ap (placeAt c) (sym z) }
-
-module _ {c : Code} {p : Place} (w : Walk c p) where
-  pub walk-placed : p .symbol < dataCount c → Placed c p
-  walk-placed h = record { inside = h; here = w .here }
-
-  pub walk-next : TableLimits c → p .symbol < dataCount c → (p′ : Place) → p′ ≡ nextPlace (c .k) p → (p′ .symbol ≡ p .symbol + 1) × Walk c p′
-  walk-next t h p′ e =
-      let n : p′ ≡ placeAt c (p .symbol + 1) = e ∙ ap (nextPlace (c .k)) (w .here) ∙ place-next c (t .sizes .k-low) (p .symbol) in
-      let z : p′ .symbol ≡ p .symbol + 1 = ap (λ (x : Place). x .symbol) n in
-      (z, record { within = omega arith; here = n ∙ ap (placeAt c) (sym z) })
-
-  pub walk-over : dataCount c ≤ p .symbol → p .symbol ≡ dataCount c
-  walk-over h = omega (arith, w .within)
 
 -- ---- a walk branch by branch
 
@@ -184,7 +113,7 @@ module _ {c : Code} {o p : Place} (w : InBranch c o p) where
   same-end : p .end ≡ o .end
   same-end = ap (λ (x : Place). x .end) (w .same)
 
-  -- one run
+  -- the run of the first place is that of each
   pub same-run : (ps : List ℕ) → runAt o ps ≡ runAt p ps
   same-run ps = ap (λ (x : Place). runAt x ps) (sym (w .same))
 
@@ -265,8 +194,6 @@ module _ {c : Code} {o p : Place} (t : TableLimits c) (w : InBranch c o p) where
 pub record Found (c : Code) (s : List ℕ) (p : Place) : Type 0 where
   pub start-low : p .start ≤ p .symbol
   pub index-low : p .symbol - p .start < c .k
-  pub index-is : p .symbol - p .start ≡ p .symbol % c .k
-  pub end-few : p .end ≤ 8192
   pub first-last : p .first ≤ p .last
   pub last-in : p .last ≤ length (c .positions)
   pub few : p .last ≤ 256
@@ -276,11 +203,6 @@ pub record Found (c : Code) (s : List ℕ) (p : Place) : Type 0 where
   pub position : (i : ℕ) → i < p .last - p .first → getD (c .positions) (p .first + i) 0 ≡ getD (runAt p (c .positions)) i 0
   pub checks-lent : AtChecks (c .k) (runAt p (c .positions)) s
   pub checks-are : checksBy (c .k) (runAt p (c .positions)) (p .symbol - p .start) ≡ checksOf c (p .symbol)
-
--- what the step to the next place asks
-pub next-fits : {c : Code} {s : List ℕ} {p : Place} → TableLimits c → Placed c p → Found c s p
-    → (c .k ≤ 4096) × (p .symbol < 4096) × (p .end ≤ 8192) × (p .first ≤ p .last) × (p .last ≤ 256)
-next-fits t w f = (t .sizes .k-high, omega (arith, w .inside, t .sizes .data-high), f .end-few, f .first-last, f .few)
 
 module _ {c : Code} {s : List ℕ} (t : AtTable c s) where
   -- the same of another syndrome of that length
@@ -294,7 +216,6 @@ module _ {c : Code} {s : List ℕ} (t : AtTable c s) where
       let z = t .table .sizes in
       let J : ℕ = checksEach c in
       let o : p .start ≡ j / c .k * c .k = ap (λ (x : Place). x .start) (w .here) in
-      let g : p .end ≡ j / c .k * c .k + c .k = ap (λ (x : Place). x .end) (w .here) in
       let f : p .first ≡ j / c .k * J = ap (λ (x : Place). x .first) (w .here) in
       let l : p .last ≡ j / c .k * J + J = ap (λ (x : Place). x .last) (w .here) in
       let e : p .last ≡ p .first + J = omega arith in
@@ -307,8 +228,6 @@ module _ {c : Code} {s : List ℕ} (t : AtTable c s) where
       record {
         start-low = omega (arith, o, div-add-mod' j (c .k));
         index-low = omega (arith, i, mod-lt j {m = c .k} (z .k-low));
-        index-is = i;
-        end-few = omega (arith, g, div-add-mod' j (c .k), w .inside, z .data-high, z .k-high);
         first-last = omega arith;
         last-in = omega (arith, n);
         few = omega (arith, n, z .runs, z .J-high, mul-le-mul-right J (z .b-high));
