@@ -1,20 +1,16 @@
--- The places of data symbols, branch by branch: by their number, and one after the other.
-use mathlib.Core.Path.{_≡_, ap, sym, subst, _∙_}
-use mathlib.Core.Logic.{_≢_}
+-- The places of data symbols: by their number, and one after the other, branch by branch.
+use mathlib.Core.Path.{_≡_, refl, ap, sym, subst, _∙_}
 use mathlib.Core.List.{List}
 use Prim.Native.Nat.{ℕ, suc, _+_, _*_, _-_, _/_, _%_, _<_, _≤_}
 use native.Mathlib.Nat.{mod-lt, div-add-mod', mul-le-mul-right, zero-mul}
-use native.Mathlib.Decide.{ℕ-discrete, decLt}
+use native.Mathlib.Decide.{decLt}
 use native.Mathlib.Omega.{arith}
 use lib.Arith.{digits-div}
-use lib.Dec.{eqb}
 use lib.ListN.{length, getD, take, drop, length-take, length-drop}
 use lib.Seq.{getD-take, getD-drop}
 use Rattle.model.specs.Code.{Code, dataCount, checkCount, checksEach, branchAt, checksBy, checksOf}
 use Rattle.model.specs.Limits.{TableLimits}
-use Rattle.model.specs.Symbols.{choose}
 use Rattle.theory.specs.Branches.{branch-of, branch-inside, run-part, run-inside}
-use Rattle.theory.specs.Counting.{eqb-yes, eqb-no}
 use Rattle.checks.specs.Checks.{AtChecks, at-run}
 use Rattle.checks.specs.declared.Place.{Place}
 
@@ -28,6 +24,10 @@ placeAt c j = record {
   last = j / c .k * checksEach c + checksEach c;
 }
 
+-- the run of a place, as it is lent
+abbrev pub runAt : Place → List ℕ → List ℕ
+runAt p ps = take (p .last - p .first) (drop (p .first) ps)
+
 -- the next number in the same branch, and the same number in the next branch
 abbrev pub alongPlace : Place → Place
 alongPlace p = record { symbol = p .symbol + 1; start = p .start; end = p .end; first = p .first; last = p .last }
@@ -35,51 +35,10 @@ alongPlace p = record { symbol = p .symbol + 1; start = p .start; end = p .end; 
 abbrev pub onwardPlace : ℕ → Place → Place
 onwardPlace k p = record { symbol = p .symbol; start = p .end; end = p .end + k; first = p .last; last = p .last + (p .last - p .first) }
 
--- the place after another
-unfoldable pub nextPlace : ℕ → Place → Place
-nextPlace k p = choose (eqb (p .symbol + 1) (p .end)) (onwardPlace k (alongPlace p)) (alongPlace p)
-
--- by these two steps
-module _ (k : ℕ) (p q : Place) (e : q ≡ alongPlace p) where
-  pub next-onward : q .symbol ≡ q .end → onwardPlace k q ≡ nextPlace k p
-  unfolding nextPlace
-  next-onward h = rw (eqb-yes (p .symbol + 1) (p .end) (sym (ap (λ (x : Place). x .symbol) e) ∙ h ∙ ap (λ (x : Place). x .end) e)) (ap (onwardPlace k) e)
-
-  pub next-along : q .symbol ≢ q .end → q ≡ nextPlace k p
-  unfolding nextPlace
-  next-along n = rw (eqb-no (p .symbol + 1) (p .end) (λ h. n (ap (λ (x : Place). x .symbol) e ∙ h ∙ sym (ap (λ (x : Place). x .end) e)))) e
-
 -- two places of one number, by the branch's symbols and its run
 place-by : (j : ℕ) {s s′ e e′ f f′ l l′ : ℕ} → s ≡ s′ → e ≡ e′ → f ≡ f′ → l ≡ l′
     → _≡_ {A = Place} (record { symbol = j; start = s; end = e; first = f; last = l }) (record { symbol = j; start = s′; end = e′; first = f′; last = l′ })
 place-by j a b c d = λ o. record { symbol = j; start = a o; end = b o; first = c o; last = d o }
-
--- the first place
-pub place-first : (c : Code) → 1 ≤ c .k → (each : ℕ) → each ≡ checksEach c
-    → _≡_ {A = Place} (record { symbol = 0; start = 0; end = c .k; first = 0; last = each }) (placeAt c 0)
-place-first c h each e =
-    let d : 0 / c .k ≡ 0 = ap (λ (x : ℕ). x / c .k) (let z : 0 ≡ 0 * c .k + 0 = omega (arith, zero-mul (c .k)) in z) ∙ digits-div 0 {m = c .k} h in
-    let y : 0 / c .k * c .k ≡ 0 = ap (λ (x : ℕ). x * c .k) d ∙ zero-mul (c .k) in
-    let z : 0 / c .k * checksEach c ≡ 0 = ap (λ (x : ℕ). x * checksEach c) d ∙ zero-mul (checksEach c) in
-    place-by 0 (sym y) (omega (arith, y)) (sym z) (omega (arith, z))
-
--- and each next one
-pub place-next : (c : Code) → 1 ≤ c .k → (j : ℕ) → nextPlace (c .k) (placeAt c j) ≡ placeAt c (j + 1)
-unfolding nextPlace
-place-next c h j = elim (ℕ-discrete (j + 1) (j / c .k * c .k + c .k)) as (λ o. nextPlace (c .k) (placeAt c j) ≡ placeAt c (j + 1)) [
-  | yes e ↦ rw (eqb-yes (j + 1) (j / c .k * c .k + c .k) e)
-      (let w : j + 1 ≡ suc (j / c .k) * c .k + 0 = omega arith in
-      let d : (j + 1) / c .k ≡ suc (j / c .k) = ap (λ (x : ℕ). x / c .k) w ∙ digits-div (suc (j / c .k)) {m = c .k} h in
-      let g : (j + 1) / c .k * c .k ≡ j / c .k * c .k + c .k = ap (λ (x : ℕ). x * c .k) d ∙ omega arith in
-      let f : (j + 1) / c .k * checksEach c ≡ j / c .k * checksEach c + checksEach c = ap (λ (x : ℕ). x * checksEach c) d ∙ omega arith in
-      place-by (j + 1) (sym g) (omega (arith, g)) (sym f) (omega (arith, f)))
-  | no n ↦ rw (eqb-no (j + 1) (j / c .k * c .k + c .k) n)
-      (let l : j % c .k + 1 < c .k = omega (arith, div-add-mod' j (c .k), mod-lt j {m = c .k} h) in
-      let w : j + 1 ≡ j / c .k * c .k + (j % c .k + 1) = omega (arith, div-add-mod' j (c .k)) in
-      let d : (j + 1) / c .k ≡ j / c .k = ap (λ (x : ℕ). x / c .k) w ∙ digits-div (j / c .k) {m = c .k} l in
-      place-by (j + 1) (ap (λ (x : ℕ). x * c .k) (sym d)) (ap (λ (x : ℕ). x * c .k + c .k) (sym d)) (ap (λ (x : ℕ). x * checksEach c) (sym d))
-      (ap (λ (x : ℕ). x * checksEach c + checksEach c) (sym d)))
-]
 
 -- ---- places of a table within its limits
 
@@ -93,50 +52,21 @@ pub record Placed (c : Code) (p : Place) : Type 0 where
   pub inside : p .symbol < dataCount c
   pub here : p ≡ placeAt c (p .symbol)
 
--- ---- a walk over all places, from the first
-
--- the place of a data symbol, or the one after the last
-pub record Walk (c : Code) (p : Place) : Type 0 where
-  pub within : p .symbol ≤ dataCount c
-  pub here : p ≡ placeAt c (p .symbol)
-
-pub walk-first : (c : Code) → TableLimits c → (each : ℕ) (p : Place) → each ≡ checksEach c → p ≡ record { symbol = 0; start = 0; end = c .k; first = 0; last = each } → Walk c p
-walk-first c t each p e f =
-    let w : p ≡ placeAt c 0 = f ∙ place-first c (t .sizes .k-low) each e in
-    let z : p .symbol ≡ 0 = ap (λ (x : Place). x .symbol) w in
-    record { within = omega arith; here = w ∙ ap (placeAt c) (sym z) }
-
-module _ {c : Code} {p : Place} (w : Walk c p) where
-  pub walk-placed : p .symbol < dataCount c → Placed c p
-  walk-placed h = record { inside = h; here = w .here }
-
-  pub walk-next : TableLimits c → p .symbol < dataCount c → (p′ : Place) → p′ ≡ nextPlace (c .k) p → (p′ .symbol ≡ p .symbol + 1) × Walk c p′
-  walk-next t h p′ e =
-      let n : p′ ≡ placeAt c (p .symbol + 1) = e ∙ ap (nextPlace (c .k)) (w .here) ∙ place-next c (t .sizes .k-low) (p .symbol) in
-      let z : p′ .symbol ≡ p .symbol + 1 = ap (λ (x : Place). x .symbol) n in
-      (z, record { within = omega arith; here = n ∙ ap (placeAt c) (sym z) })
-
-  pub walk-over : dataCount c ≤ p .symbol → p .symbol ≡ dataCount c
-  walk-over h = omega (arith, w .within)
-
 -- ---- a walk branch by branch
-
--- a place of a branch, or the one after its last symbol
-pub record InBranch (c : Code) (p : Place) : Type 0 where
-  pub branch : ℕ
-  pub inside : branch < c .b
-  pub start-is : p .start ≡ branch * c .k
-  pub end-is : p .end ≡ branch * c .k + c .k
-  pub first-is : p .first ≡ branch * checksEach c
-  pub last-is : p .last ≡ branch * checksEach c + checksEach c
-  pub low : p .start ≤ p .symbol
-  pub high : p .symbol ≤ p .end
 
 -- the first place of a branch, or the one after all branches
 pub record AtBranch (c : Code) (p : Place) : Type 0 where
   pub branch : ℕ
   pub within : branch ≤ c .b
   pub here : p ≡ record { symbol = branch * c .k; start = branch * c .k; end = branch * c .k + c .k; first = branch * checksEach c; last = branch * checksEach c + checksEach c }
+
+-- a place p of the branch whose first place is o, or the one after its last symbol
+pub record InBranch (c : Code) (o p : Place) : Type 0 where
+  pub opens : AtBranch c o
+  pub inside : opens .branch < c .b
+  pub same : p ≡ record { symbol = p .symbol; start = o .start; end = o .end; first = o .first; last = o .last }
+  pub low : o .symbol ≤ p .symbol
+  pub high : p .symbol ≤ o .end
 
 pub branch-first : (c : Code) (each : ℕ) (p : Place) → each ≡ checksEach c → p ≡ record { symbol = 0; start = 0; end = c .k; first = 0; last = each } → AtBranch c p
 branch-first c each p e f = record {
@@ -152,109 +82,127 @@ branch-first c each p e f = record {
       });
 }
 
-module _ {c : Code} {p : Place} (t : TableLimits c) (w : AtBranch c p) where
-  number : p .symbol ≡ w .branch * c .k
+module _ {c : Code} {o : Place} (t : TableLimits c) (w : AtBranch c o) where
+  number : o .symbol ≡ w .branch * c .k
   number = ap (λ (x : Place). x .symbol) (w .here)
 
-  -- a branch is next
-  pub branch-next : p .symbol < dataCount c → InBranch c p
-  branch-next h = record {
-    branch = w .branch;
-    inside = elim (decLt (w .branch) (c .b)) as (λ o. w .branch < c .b)
-        [ yes l ↦ l | no l ↦ absurd (omega (arith, h, number, mul-le-mul-right (c .k) (let z : c .b ≤ w .branch = omega arith in z))) ];
-    start-is = ap (λ (x : Place). x .start) (w .here);
-    end-is = ap (λ (x : Place). x .end) (w .here);
-    first-is = ap (λ (x : Place). x .first) (w .here);
-    last-is = ap (λ (x : Place). x .last) (w .here);
-    low = omega (arith, number, ap (λ (x : Place). x .start) (w .here));
-    high = omega (arith, number, ap (λ (x : Place). x .end) (w .here));
-  }
-
   -- a branch has a symbol
-  pub branch-some : p .symbol < p .end
+  pub branch-some : o .symbol < o .end
   branch-some = omega (arith, number, ap (λ (x : Place). x .end) (w .here), t .sizes .k-low)
 
+  -- a branch is next
+  pub branch-next : o .symbol < dataCount c → InBranch c o o
+  branch-next h = record {
+    opens = w;
+    inside = elim (decLt (w .branch) (c .b)) as (λ x. w .branch < c .b)
+        [ yes l ↦ l | no l ↦ absurd (omega (arith, h, number, mul-le-mul-right (c .k) (let z : c .b ≤ w .branch = omega arith in z))) ];
+    same = refl;
+    low = omega arith;
+    high = omega (arith, branch-some);
+  }
+
   -- all branches are passed
-  pub branch-over : dataCount c ≤ p .symbol → p .symbol ≡ dataCount c
+  pub branch-over : dataCount c ≤ o .symbol → o .symbol ≡ dataCount c
   branch-over h = omega (arith, number, mul-le-mul-right (c .k) (w .within))
 
-module _ {c : Code} {p : Place} (t : TableLimits c) (w : InBranch c p) where
+-- the next place has fewer symbols of its branch left
+pub along-less : (p q : Place) → p .symbol < p .end → q ≡ alongPlace p → q .end - q .symbol < p .end - p .symbol
+along-less p q h e = omega (arith, ap (λ (x : Place). x .symbol) e, ap (λ (x : Place). x .end) e)
+
+module _ {c : Code} {o p : Place} (w : InBranch c o p) where
+  same-end : p .end ≡ o .end
+  same-end = ap (λ (x : Place). x .end) (w .same)
+
+  -- the run of the first place is that of each
+  pub same-run : (ps : List ℕ) → runAt o ps ≡ runAt p ps
+  same-run ps = ap (λ (x : Place). runAt x ps) (sym (w .same))
+
+module _ {c : Code} {o p : Place} (t : TableLimits c) (w : InBranch c o p) where
   abbrev r : ℕ
-  r = w .branch
+  r = w .opens .branch
+
+  start-is : o .start ≡ r * c .k
+  start-is = ap (λ (x : Place). x .start) (w .opens .here)
+
+  end-is : o .end ≡ r * c .k + c .k
+  end-is = ap (λ (x : Place). x .end) (w .opens .here)
+
+  first-is : o .first ≡ r * checksEach c
+  first-is = ap (λ (x : Place). x .first) (w .opens .here)
+
+  last-is : o .last ≡ r * checksEach c + checksEach c
+  last-is = ap (λ (x : Place). x .last) (w .opens .here)
 
   -- a symbol is next
   pub in-placed : p .symbol < p .end → Placed c p
   in-placed h =
       let i : ℕ = p .symbol - r * c .k in
-      let l : i < c .k = omega (arith, w .start-is, w .end-is, w .low) in
-      let e : p .symbol ≡ r * c .k + i = omega (arith, w .start-is, w .low) in
+      let n : o .symbol ≡ r * c .k = number t (w .opens) in
+      let l : i < c .k = omega (arith, n, end-is, same-end w, w .low) in
+      let e : p .symbol ≡ r * c .k + i = omega (arith, n, w .low) in
       let d : p .symbol / c .k ≡ r = ap (λ (x : ℕ). x / c .k) e ∙ digits-div r {m = c .k} l in
       record {
         inside = omega (arith, e, branch-inside c r (w .inside));
-        here = place-by (p .symbol) (w .start-is ∙ ap (λ (x : ℕ). x * c .k) (sym d)) (w .end-is ∙ ap (λ (x : ℕ). x * c .k + c .k) (sym d))
-            (w .first-is ∙ ap (λ (x : ℕ). x * checksEach c) (sym d)) (w .last-is ∙ ap (λ (x : ℕ). x * checksEach c + checksEach c) (sym d));
+        here = w .same ∙ place-by (p .symbol) (start-is ∙ ap (λ (x : ℕ). x * c .k) (sym d)) (end-is ∙ ap (λ (x : ℕ). x * c .k + c .k) (sym d))
+            (first-is ∙ ap (λ (x : ℕ). x * checksEach c) (sym d)) (last-is ∙ ap (λ (x : ℕ). x * checksEach c + checksEach c) (sym d));
       }
 
-  pub in-along : p .symbol < p .end → (q : Place) → q ≡ alongPlace p → InBranch c q
+  -- the next place
+  pub in-along : p .symbol < p .end → (q : Place) → q ≡ alongPlace p → InBranch c o q
   in-along h q e = rw e (record {
-    branch = r;
+    opens = w .opens;
     inside = w .inside;
-    start-is = w .start-is;
-    end-is = w .end-is;
-    first-is = w .first-is;
-    last-is = w .last-is;
+    same = ap alongPlace (w .same);
     low = omega (arith, w .low);
-    high = omega arith;
+    high = omega (arith, same-end w);
   })
 
-  -- its symbols are passed
+  -- its symbols are passed: the next branch, with fewer symbols left of n
   pub in-onward : p .end ≤ p .symbol → (q : Place) → q ≡ onwardPlace (c .k) p → AtBranch c q
   in-onward h q e =
-      let s : p .symbol ≡ r * c .k + c .k = omega (arith, w .end-is, w .high) in
+      let s : p .symbol ≡ r * c .k + c .k = omega (arith, end-is, same-end w, w .high) in
       let y : suc r * c .k ≡ r * c .k + c .k = omega arith in
       let z : suc r * checksEach c ≡ r * checksEach c + checksEach c = omega arith in
       record {
         branch = suc r;
         within = w .inside;
-        here = e ∙ (λ o. record {
-          symbol = (s ∙ sym y) o;
-          start = (w .end-is ∙ sym y) o;
-          end = (let x : p .end + c .k ≡ suc r * c .k + c .k = omega (arith, w .end-is, y) in x) o;
-          first = (w .last-is ∙ sym z) o;
-          last = (let x : p .last + (p .last - p .first) ≡ suc r * checksEach c + checksEach c = omega (arith, w .first-is, w .last-is, z) in x) o;
+        here = e ∙ ap (onwardPlace (c .k)) (w .same) ∙ (λ x. record {
+          symbol = (s ∙ sym y) x;
+          start = (end-is ∙ sym y) x;
+          end = (let u : o .end + c .k ≡ suc r * c .k + c .k = omega (arith, end-is, y) in u) x;
+          first = (last-is ∙ sym z) x;
+          last = (let u : o .last + (o .last - o .first) ≡ suc r * checksEach c + checksEach c = omega (arith, first-is, last-is, z) in u) x;
         });
       }
+
+  pub onward-less : p .end ≤ p .symbol → (q : Place) → q ≡ onwardPlace (c .k) p → (n : ℕ) → o .symbol < n → n - q .symbol < n - o .symbol
+  onward-less h q e n l = omega (arith, ap (λ (x : Place). x .symbol) e, same-end w, branch-some t (w .opens))
 
   -- what the step into the next branch asks
   pub onward-fits : (c .k ≤ 4096) × (p .end ≤ 8192) × (p .first ≤ p .last) × (p .last ≤ 256)
   onward-fits =
-      let s = t .sizes in (
+      let s = t .sizes in
+      let f : p .first ≡ o .first = ap (λ (x : Place). x .first) (w .same) in
+      let l : p .last ≡ o .last = ap (λ (x : Place). x .last) (w .same) in (
         s .k-high,
-        omega (arith, w .end-is, branch-inside c r (w .inside), s .data-high),
-        omega (arith, w .first-is, w .last-is),
-        omega (arith, w .last-is, run-inside c s r (w .inside), s .runs, s .J-high, mul-le-mul-right (checksEach c) (s .b-high)),
+        omega (arith, end-is, same-end w, branch-inside c r (w .inside), s .data-high),
+        omega (arith, f, l, first-is, last-is),
+        omega (arith, l, last-is, run-inside c s r (w .inside), s .runs, s .J-high, mul-le-mul-right (checksEach c) (s .b-high)),
       )
 
 -- what a place is good for: its run, and the checks there
 pub record Found (c : Code) (s : List ℕ) (p : Place) : Type 0 where
   pub start-low : p .start ≤ p .symbol
   pub index-low : p .symbol - p .start < c .k
-  pub index-is : p .symbol - p .start ≡ p .symbol % c .k
-  pub end-few : p .end ≤ 8192
   pub first-last : p .first ≤ p .last
   pub last-in : p .last ≤ length (c .positions)
   pub few : p .last ≤ 256
   pub each : p .last - p .first ≡ checksEach c
   -- of the run as it is lent
-  pub run-length : length (take (p .last - p .first) (drop (p .first) (c .positions))) ≡ p .last - p .first
-  pub position : (i : ℕ) → i < p .last - p .first → getD (c .positions) (p .first + i) 0 ≡ getD (take (p .last - p .first) (drop (p .first) (c .positions))) i 0
-  pub checks-lent : AtChecks (c .k) (take (p .last - p .first) (drop (p .first) (c .positions))) s
-  pub checks-are : checksBy (c .k) (take (p .last - p .first) (drop (p .first) (c .positions))) (p .symbol - p .start) ≡ checksOf c (p .symbol)
-
--- what the step to the next place asks
-pub next-fits : {c : Code} {s : List ℕ} {p : Place} → TableLimits c → Placed c p → Found c s p
-    → (c .k ≤ 4096) × (p .symbol < 4096) × (p .end ≤ 8192) × (p .first ≤ p .last) × (p .last ≤ 256)
-next-fits t w f = (t .sizes .k-high, omega (arith, w .inside, t .sizes .data-high), f .end-few, f .first-last, f .few)
+  pub run-length : length (runAt p (c .positions)) ≡ p .last - p .first
+  pub position : (i : ℕ) → i < p .last - p .first → getD (c .positions) (p .first + i) 0 ≡ getD (runAt p (c .positions)) i 0
+  pub checks-lent : AtChecks (c .k) (runAt p (c .positions)) s
+  pub checks-are : checksBy (c .k) (runAt p (c .positions)) (p .symbol - p .start) ≡ checksOf c (p .symbol)
 
 module _ {c : Code} {s : List ℕ} (t : AtTable c s) where
   -- the same of another syndrome of that length
@@ -268,21 +216,18 @@ module _ {c : Code} {s : List ℕ} (t : AtTable c s) where
       let z = t .table .sizes in
       let J : ℕ = checksEach c in
       let o : p .start ≡ j / c .k * c .k = ap (λ (x : Place). x .start) (w .here) in
-      let g : p .end ≡ j / c .k * c .k + c .k = ap (λ (x : Place). x .end) (w .here) in
       let f : p .first ≡ j / c .k * J = ap (λ (x : Place). x .first) (w .here) in
       let l : p .last ≡ j / c .k * J + J = ap (λ (x : Place). x .last) (w .here) in
       let e : p .last ≡ p .first + J = omega arith in
       let i : j - p .start ≡ j % c .k = omega (arith, o, div-add-mod' j (c .k)) in
       let b = branch-of c (t .table) j (w .inside) in
       let n = run-inside c z (j / c .k) b in
-      let run : take (p .last - p .first) (drop (p .first) (c .positions)) ≡ branchAt c (j / c .k) =
+      let run : runAt p (c .positions) ≡ branchAt c (j / c .k) =
       ap (λ (x : ℕ). take (x - p .first) (drop (p .first) (c .positions))) e ∙ run-part c (j / c .k) (p .first) f in
       let a = at-run c (t .table) (j / c .k) b s (t .len) in
       record {
         start-low = omega (arith, o, div-add-mod' j (c .k));
         index-low = omega (arith, i, mod-lt j {m = c .k} (z .k-low));
-        index-is = i;
-        end-few = omega (arith, g, div-add-mod' j (c .k), w .inside, z .data-high, z .k-high);
         first-last = omega arith;
         last-in = omega (arith, n);
         few = omega (arith, n, z .runs, z .J-high, mul-le-mul-right J (z .b-high));

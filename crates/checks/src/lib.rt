@@ -7,7 +7,7 @@ ghost use lib.ListN.{length};
 ghost use Rattle.model.specs.Code.{checksBy};
 ghost use Rattle.model.specs.Symbols.{Below, count, symbolsAt, subtractAt};
 ghost use Rattle.checks.specs.Checks.{AtChecks, estimatesBy};
-ghost use Rattle.checks.specs.Places.{alongPlace, onwardPlace, nextPlace};
+ghost use Rattle.checks.specs.Places.{alongPlace, onwardPlace};
 
 // Where a data symbol stands: its number; its branch, which is the data symbols from `start` to before `end`; and the run of that
 // branch, which is the positions of the table from `first` to before `last`.
@@ -59,18 +59,6 @@ impl Place {
             first: self.last,
             last: self.last + (self.last - self.first),
         }
-    }
-
-    // The next data symbol: of the same branch, or the first of the next branch.
-    pub fn next(self, k: usize) -> Self
-        requires { ⌜ (k ≤ 4096) × (self .symbol < 4096) × (self .end ≤ 8192) × (self .first ≤ self .last) × (self .last ≤ 256) ⌝ }
-        ensures { λ r. ⌜ r ≡ nextPlace k self ⌝ }
-    {
-        let on = self.along();
-        if on.symbol == on.end {
-            return on.onward(k);
-        }
-        on
     }
 }
 

@@ -1,5 +1,5 @@
 -- A symbol's margin by its zeros, margins written from the front, and the margins of a state in which S and D are 0.
-use mathlib.Core.Path.{_≡_, refl, ap, sym, _∙_}
+use mathlib.Core.Path.{_≡_, refl, ap, sym, subst, _∙_}
 use mathlib.Core.Logic.{_≢_}
 use mathlib.Core.List.{List, [], _∷_, _++_, map}
 use Prim.Native.Nat.{ℕ, zero, suc, _+_, _-_, _≤_, _<_}
@@ -7,7 +7,7 @@ use native.Mathlib.Decide.{ℕ-discrete, decLt}
 use native.Mathlib.Numerals.{add-one}
 use native.Mathlib.Omega.{arith}
 use lib.IntN.{ℤ, pos, _-ℤ_}
-use lib.ListN.{length, getD, set, take, drop, length-set}
+use lib.ListN.{length, getD, set, take, length-set}
 use lib.Seq.{take-suc-set, take-all}
 use lib.Signed.{mag}
 use mir.Syntax.{w32}
@@ -15,7 +15,7 @@ use mir.Val.{toZ, ofZ, SFits}
 use mir.ValLaws.{toZ-ofZ}
 use borrow.Author.Tests.{lt-ltb, le-ltb}
 use Rattle.model.specs.Code.{Code, dataCount, checksEach, checksBy, checksOf}
-use Rattle.model.specs.Decoder.{State, estimates, dataSymbols, marginsOf, stateWeight}
+use Rattle.model.specs.Decoder.{State, stateBy, estimates, dataSymbols, marginsOf, stateWeight}
 use Rattle.model.specs.Limits.{TableLimits}
 use Rattle.model.specs.Symbols.{count, weight, tabulate, symbolsAt}
 use Rattle.model.specs.Vote.{otherCount, margin}
@@ -25,8 +25,8 @@ use Rattle.theory.specs.Integers.{whole}
 use Rattle.theory.specs.Margins.{zeros-others, margin-top, margins-snoc}
 use Rattle.theory.specs.Runs.{symbols-range}
 use Rattle.theory.specs.Voting.{other-max}
-use Rattle.checks.specs.Checks.{estimatesBy}
-use Rattle.checks.specs.Places.{AtTable, Found}
+use Rattle.checks.specs.Checks.{AtChecks, estimatesBy}
+use Rattle.checks.specs.Places.{AtTable, Found, runAt}
 use Rattle.checks.specs.declared.Place.{Place}
 use Rattle.visits.specs.Estimates.{estimatesAt}
 use Rattle.zeros.specs.Counts.{zeroCounts, zeroCounts-at}
@@ -55,43 +55,62 @@ margin-but-one es e =
 pub others-few : (es : List ℕ) → otherCount es 0 es ≤ length es
 others-few es = omega (arith, zeros-others es)
 
--- ---- at a place: the run is the part of the table that is lent
+-- ---- the margins of all data symbols
 
--- the zeros at the checks, from those of all data symbols
-pub placed-zeros : {c : Code} {s : List ℕ} {p : Place} → Found c s p → p .symbol < dataCount c → (zs : List ℕ) → zs ≡ zeroCounts c s
-    → getD zs (p .symbol) 0 ≡ count 0 (symbolsAt s (checksBy (c .k) (take (p .last - p .first) (drop (p .first) (c .positions))) (p .symbol - p .start)))
-placed-zeros {c} {s} {p} f h zs e =
-    ap (λ (z : List ℕ). getD z (p .symbol) 0) e ∙ zeroCounts-at c s (p .symbol) h ∙ ap (λ (is : List ℕ). count 0 (symbolsAt s is)) (sym (f .checks-are))
+-- that of data symbol i, by S and D
+abbrev pub marginOf : Code → List ℕ → List ℕ → ℕ → ℤ
+marginOf c s d i = margin (estimatesAt c i (getD d i 0) s)
 
--- the margin
-pub placed-margin : {c : Code} {s : List ℕ} {p : Place} → Found c s p → (own : ℕ) (m : ℤ)
-    → m ≡ margin (estimatesBy (c .k) (take (p .last - p .first) (drop (p .first) (c .positions))) (p .symbol - p .start) own s) → m ≡ margin (estimatesAt c (p .symbol) own s)
-placed-margin {c} {s} {p} f own m e = e ∙ ap (λ (is : List ℕ). margin (own ∷ symbolsAt s is)) (f .checks-are)
+pub margins-are : (c : Code) (r s d : List ℕ) (n : ℕ) → n ≡ dataCount c → map (marginOf c s d) (tabulate n (λ i. i)) ≡ marginsOf c (stateBy r s d)
+unfolding marginsOf estimates
+margins-are c r s d n e = ap (λ (m : ℕ). map (marginOf c s d) (tabulate m (λ i. i))) e
+
+-- ---- at a place p, where the run of its branch is lent
+
+module _ {c : Code} {s : List ℕ} {p : Place} (f : Found c s p) (run : List ℕ) (e : run ≡ runAt p (c .positions)) where
+  run-checks : checksBy (c .k) run (p .symbol - p .start) ≡ checksOf c (p .symbol)
+  run-checks = ap (λ (ps : List ℕ). checksBy (c .k) ps (p .symbol - p .start)) e ∙ f .checks-are
+
+  -- what the margin there asks
+  pub placed-fits : p .symbol < dataCount c → (zs : List ℕ) → zs ≡ zeroCounts c s
+      → AtChecks (c .k) run s
+      × (p .symbol - p .start < c .k)
+      × (getD zs (p .symbol) 0 ≡ count 0 (symbolsAt s (checksBy (c .k) run (p .symbol - p .start))))
+  placed-fits h zs z = (
+    subst (λ (ps : List ℕ). AtChecks (c .k) ps s) (sym e) (f .checks-lent),
+    f .index-low,
+    ap (λ (l : List ℕ). getD l (p .symbol) 0) z ∙ zeroCounts-at c s (p .symbol) h ∙ ap (λ (is : List ℕ). count 0 (symbolsAt s is)) (sym run-checks),
+  )
+
+  -- the margin
+  pub placed-margin : (own : ℕ) (m : ℤ) → m ≡ margin (estimatesBy (c .k) run (p .symbol - p .start) own s) → m ≡ margin (estimatesAt c (p .symbol) own s)
+  placed-margin own m g = g ∙ ap (λ (is : List ℕ). margin (own ∷ symbolsAt s is)) run-checks
 
 -- ---- margins written from the front
 
--- the first j are written: f tells each
-pub record Front (f : ℕ → ℤ) (ms₀ ms : List ℤ) (j : ℕ) : Type 0 where
-  pub inside : j ≤ length ms
-  pub len : length ms ≡ length ms₀
+-- the first j of n are written: f tells each
+pub record Front (f : ℕ → ℤ) (n : ℕ) (ms : List ℤ) (j : ℕ) : Type 0 where
+  pub inside : j ≤ n
+  pub len : length ms ≡ n
   pub made : take j ms ≡ map f (tabulate j (λ i. i))
 
-pub front-none : (f : ℕ → ℤ) (ms : List ℤ) → Front f ms ms 0
+pub front-none : (f : ℕ → ℤ) (n : ℕ) (ms : List ℤ) → length ms ≡ n → Front f n ms 0
 unfolding tabulate
-front-none f ms = record { inside = omega arith; len = refl; made = refl }
+front-none f n ms e = record { inside = omega arith; len = e; made = refl }
 
-pub front-turn : (f : ℕ → ℤ) (ms₀ ms : List ℤ) (j : ℕ) (v : ℤ) → Front f ms₀ ms j → j < length ms → v ≡ f j → Front f ms₀ (set ms j v) (j + 1)
-front-turn f ms₀ ms j v w h e = record {
-  inside = rw (length-set ms j v) (omega arith);
-  len = length-set ms j v ∙ w .len;
-  made = ap (λ (n : ℕ). take n (set ms j v)) (add-one j) ∙ take-suc-set ms j v h ∙ ap (λ (l : List ℤ). l ++ (v ∷ [])) (w .made)
-      ∙ ap (λ (m : ℤ). map f (tabulate j (λ i. i)) ++ (m ∷ [])) e ∙ sym (margins-snoc f j);
-}
+module _ (f : ℕ → ℤ) (n : ℕ) (ms : List ℤ) (j : ℕ) (w : Front f n ms j) where
+  pub front-turn : j < n → (v : ℤ) → v ≡ f j → Front f n (set ms j v) (j + 1)
+  front-turn h v e = record {
+    inside = omega arith;
+    len = length-set ms j v ∙ w .len;
+    made = ap (λ (m : ℕ). take m (set ms j v)) (add-one j) ∙ take-suc-set ms j v (omega (arith, w .len)) ∙ ap (λ (l : List ℤ). l ++ (v ∷ [])) (w .made)
+        ∙ ap (λ (m : ℤ). map f (tabulate j (λ i. i)) ++ (m ∷ [])) e ∙ sym (margins-snoc f j);
+  }
 
-pub front-all : (f : ℕ → ℤ) (ms₀ ms : List ℤ) (j : ℕ) → Front f ms₀ ms j → length ms ≤ j → ms ≡ map f (tabulate (length ms₀) (λ i. i))
-front-all f ms₀ ms j w h =
-    let e : j ≡ length ms₀ = omega (arith, w .inside, w .len) in
-    sym (take-all j ms h) ∙ w .made ∙ ap (λ (n : ℕ). map f (tabulate n (λ i. i))) e
+  pub front-all : n ≤ j → ms ≡ map f (tabulate n (λ i. i))
+  front-all h =
+      let e : j ≡ n = omega (arith, w .inside) in
+      sym (take-all j ms (omega (arith, w .len))) ∙ w .made ∙ ap (λ (m : ℕ). map f (tabulate m (λ i. i))) e
 
 -- ---- a state in which S and D are 0
 

@@ -43,7 +43,7 @@ pub fn margin_at(code: Params, positions: &[u16], j: usize, own: u8, others: u8,
     margin_of(zeros, visits::most_other_at(code, positions, j, own, s))
 }
 
-// The margin of every data symbol, from S and D and the zeros at the checks of each.
+// The margin of every data symbol, branch by branch, from S and D and the zeros at the checks of each.
 pub fn write_margins(
     code: Params,
     positions: &[u16],
@@ -59,13 +59,17 @@ pub fn write_margins(
     ensures { λ _. ⌜ ((r : List ℕ) → now (margins .exit) ≡ marginsOf (codeBy code (now (positions .entry))) (stateBy r (now (s .entry)) (now (d .entry)))) ⌝ }
 {
     let mut place = Place::opening(code.k, params::checks_each(code, positions.len()));
-    while place.symbol < margins.len() {
-        let j = place.symbol;
+    while place.symbol < d.len() {
         let first = place.first;
         let last = place.last;
-        let index = j - place.start;
-        margins[j] = margin_at(code, &positions[first..last], index, d[j], zeros[j], s);
-        place = place.next(code.k);
+        let run = &positions[first..last];
+        while place.symbol < place.end {
+            let j = place.symbol;
+            let index = j - place.start;
+            margins[j] = margin_at(code, run, index, d[j], zeros[j], s);
+            place = place.along();
+        }
+        place = place.onward(code.k);
     }
 }
 

@@ -93,7 +93,7 @@ fn twos_of(x: i32) -> u32
     }
 }
 
-// Four bytes for the margin of every data symbol, from S and D and the zeros at the checks of each.
+// Four bytes for the margin of every data symbol, branch by branch, from S and D and the zeros at the checks of each.
 fn write_margins(code: Params, positions: &[u16], zeros: &[u8], s: &[u8], d: &[u8], out: &mut [u8])
     requires { ⌜ AtTable (codeBy code (now positions)) (now s)
         × (now zeros ≡ zeroCounts (codeBy code (now positions)) (now s))
@@ -103,13 +103,17 @@ fn write_margins(code: Params, positions: &[u16], zeros: &[u8], s: &[u8], d: &[u
 {
     let mut place = Place::opening(code.k, params::checks_each(code, positions.len()));
     while place.symbol < d.len() {
-        let j = place.symbol;
         let first = place.first;
         let last = place.last;
-        let index = j - place.start;
-        let m = margins::margin_at(code, &positions[first..last], index, d[j], zeros[j], s);
-        put_word(out, 4 * j, twos_of(m));
-        place = place.next(code.k);
+        let run = &positions[first..last];
+        while place.symbol < place.end {
+            let j = place.symbol;
+            let index = j - place.start;
+            let m = margins::margin_at(code, run, index, d[j], zeros[j], s);
+            put_word(out, 4 * j, twos_of(m));
+            place = place.along();
+        }
+        place = place.onward(code.k);
     }
 }
 

@@ -1,5 +1,5 @@
 -- `write_firm`: the first i margins are written, and so all.
-use mathlib.Core.Path.{_∙_}
+use mathlib.Core.Path.{refl, _∙_}
 use Prim.Native.Nat.{_-_}
 use native.Mathlib.Omega.{arith}
 use lib.IntN.{pos, _-ℤ_}
@@ -9,13 +9,13 @@ use Rattle.margins.proofs.write_firm.Statement.{statement}
 use Rattle.margins.proofs.write_firm.Tie as tie
 
 abbrev Inv-loop : tie.InvT-loop
-Inv-loop n margins₀ i₀ margins i = Front (λ l. pos n -ℤ pos 0) margins₀ margins i
+Inv-loop n margins₀ i₀ margins i = Front (λ l. pos n -ℤ pos 0) (length margins₀) margins i
 
 abbrev μ-loop : tie.MeasureT-loop
 μ-loop n margins₀ i₀ margins i = length margins - i
 
 loop-holds : tie.Need-loop-holds Inv-loop μ-loop
-loop-holds c = front-none _ _
+loop-holds c = front-none _ _ _ refl
 
 margin-of-requires : tie.Need-margin-of-requires Inv-loop μ-loop
 margin-of-requires c κs = (omega arith, omega arith)
@@ -33,13 +33,13 @@ loop-less : tie.Need-loop-less Inv-loop μ-loop
 loop-less c = simp length-set (omega arith)
 
 loop-again : tie.Need-loop-again Inv-loop μ-loop
-loop-again c = front-turn _ _ _ _ _ (c .before .before .loop .inv) (omega arith) (read-back _ (c .margin-of .ok) ∙ c .margin-of .ensures)
+loop-again c = let w = c .before .before .loop .inv in front-turn _ _ _ _ w (omega (arith, w .len)) _ (read-back _ (c .margin-of .ok) ∙ c .margin-of .ensures)
 
 same-length : tie.Need-same-length Inv-loop μ-loop
 same-length c = c .before .loop .inv .len
 
 returns : tie.Need-returns Inv-loop μ-loop
-returns c = front-all _ _ _ _ (c .before .loop .inv) (omega arith)
+returns c = front-all _ _ _ _ (c .before .loop .inv) (omega (arith, c .before .loop .inv .len))
 
 pub write-firm-spec : {M : Type 1} → statement M
 write-firm-spec =

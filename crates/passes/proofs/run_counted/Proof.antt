@@ -7,7 +7,7 @@ use native.Mathlib.Omega.{arith}
 use lib.ListN.{length, getD, drop, drop-of-length-le}
 use Rattle.model.specs.Code.{Code, dataCount}
 use Rattle.params.specs.Codes.{codeBy}
-use Rattle.checks.specs.Places.{InBranch, AtBranch, branch-first, branch-next, branch-some, branch-over, Placed, in-placed, in-along, in-onward, onward-fits}
+use Rattle.checks.specs.Places.{InBranch, AtBranch, branch-first, branch-next, branch-over, Placed, in-placed, in-along, along-less, in-onward, onward-less, onward-fits}
 use Rattle.checks.specs.declared.Place.{Place}
 use Rattle.zeros.specs.Counts.{zeroCounts, length-zeroCounts}
 use Rattle.visits.specs.Progress.{Progress, progress, visitOf, Ready}
@@ -17,9 +17,7 @@ use Rattle.passes.proofs.run_counted.Tie as tie
 
 abbrev Inv-loop3 : tie.InvT-loop3
 Inv-loop3 code positions thresholds result₀ syndrome₀ difference₀ zeros₀ n symbols each tally₀ p count before threshold place₀ result syndrome difference zeros tally place =
-    InBranch (codeBy code positions) place
-    × (place .end ≡ place₀ .end)
-    × (place₀ .symbol ≤ place .symbol)
+    InBranch (codeBy code positions) place₀ place
     × (progress result syndrome difference tally
     ≡ visitsFrom (codeBy code positions) threshold (place₀ .symbol) (place .symbol - place₀ .symbol) (progress result₀ syndrome₀ difference₀ tally₀))
     × (zeros ≡ zeroCounts (codeBy code positions) syndrome)
@@ -109,7 +107,7 @@ loop2-holds c =
     (branch-first (codeAt l) _ _ (l .before .checks-each .ensures) e, rw e refl, l .loop .inv .2)
 
 -- a branch is next, where the loop over branches goes on
-next-branch : (c : tie.Then2 Inv-loop3 μ-loop3 Inv-loop2 μ-loop2 Inv-loop μ-loop) → InBranch (codeAt (outer (c .before .before))) (c .before .before .loop2 .place)
+next-branch : (c : tie.Then2 Inv-loop3 μ-loop3 Inv-loop2 μ-loop2 Inv-loop μ-loop) → let i = c .before .before in InBranch (codeAt (outer i)) (i .loop2 .place) (i .loop2 .place)
 next-branch c =
     let i = c .before .before in
     let l = outer i in
@@ -123,14 +121,14 @@ all-visited c =
     branch-over (start l .pre .0 .usable .table) (i .loop2 .inv .0) (omega (arith, l .before .before .data-count .ensures, c .if2 .left))
 
 loop3-holds : tie.Need-loop3-holds Inv-loop3 μ-loop3 Inv-loop2 μ-loop2 Inv-loop μ-loop
-loop3-holds c = (next-branch c, refl, omega arith, from-none _ _ _ _ _ (omega arith), c .before .before .loop2 .inv .2)
+loop3-holds c = (next-branch c, from-none _ _ _ _ _ (omega arith), c .before .before .loop2 .inv .2)
 
 -- the visits of the pass, those of the branch included, and what they keep
 made : (c : tie.At-loop3 Inv-loop3 μ-loop3 Inv-loop2 μ-loop2 Inv-loop μ-loop)
     → let l = outer (branches c) in inner c ≡ visits (codeAt l) (getD (start l .args .thresholds .now) (l .loop .p) 0) (c .loop3 .place .symbol) (between l)
 made c =
     let i = branches c in
-    c .loop3 .inv .3 ∙ ap (visitsFrom _ _ _ _) (i .loop2 .inv .1) ∙ visits-from _ _ _ _ _ _ (omega (arith, c .loop3 .inv .2))
+    c .loop3 .inv .1 ∙ ap (visitsFrom _ _ _ _) (i .loop2 .inv .1) ∙ visits-from _ _ _ _ _ _ (omega (arith, c .loop3 .inv .0 .low))
 
 kept-in : (c : tie.At-loop3 Inv-loop3 μ-loop3 Inv-loop2 μ-loop2 Inv-loop μ-loop)
     → Kept (codeAt (outer (branches c))) (c .loop3 .place .symbol) (between (outer (branches c))) (inner c)
@@ -154,7 +152,7 @@ visit-requires : tie.Need-visit-requires Inv-loop3 μ-loop3 Inv-loop2 μ-loop2 I
 visit-requires c κs =
     let t = c .before .before .before .before in
     let i = t .before .before in
-    (kept-in i .ready, placed t, few-changes t, i .loop3 .inv .4)
+    (kept-in i .ready, placed t, few-changes t, i .loop3 .inv .2)
 
 along-requires : tie.Need-along-requires Inv-loop3 μ-loop3 Inv-loop2 μ-loop2 Inv-loop μ-loop
 along-requires c κs =
@@ -163,8 +161,7 @@ along-requires c κs =
 
 loop3-less : tie.Need-loop3-less Inv-loop3 μ-loop3 Inv-loop2 μ-loop2 Inv-loop μ-loop
 loop3-less c =
-    let e = c .along .ensures in
-    omega (arith, ap (λ (x : Place). x .symbol) e, ap (λ (x : Place). x .end) e, c .before .before .before .before .before .before .before .before .before .before .before .before .before .before .if3 .taken)
+    along-less _ _ (c .before .before .before .before .before .before .before .before .before .before .before .before .before .before .if3 .taken) (c .along .ensures)
 
 loop3-again : tie.Need-loop3-again Inv-loop3 μ-loop3 Inv-loop2 μ-loop2 Inv-loop μ-loop
 loop3-again c =
@@ -173,11 +170,9 @@ loop3-again c =
     let e = c .before .before .before .before .before .before .before .before .before .visit .ensures in
     let o = c .along .ensures in
     let n : c .along .result .symbol ≡ i .loop3 .place .symbol + 1 = ap (λ (x : Place). x .symbol) o in
-    let low = i .loop3 .inv .2 in (
-      in-along (kept-in i .ready .usable .table) (i .loop3 .inv .0) (t .if3 .taken) _ o,
-      ap (λ (x : Place). x .end) o ∙ i .loop3 .inv .1,
-      omega (arith, n, low),
-      e .0 ∙ ap (visitOf _ _) (i .loop3 .inv .3) ∙ sym (from-suc _ _ _ _ _ _ (omega (arith, n, low)) _ (omega (arith, low))),
+    let w = i .loop3 .inv .0 in (
+      in-along (kept-in i .ready .usable .table) w (t .if3 .taken) _ o,
+      e .0 ∙ ap (visitOf _ _) (i .loop3 .inv .1) ∙ sym (from-suc _ _ _ _ _ _ (omega (arith, n, w .low)) _ (omega (arith, w .low))),
       e .1,
     )
 
@@ -188,16 +183,7 @@ loop2-less : tie.Need-loop2-less Inv-loop3 μ-loop3 Inv-loop2 μ-loop2 Inv-loop 
 loop2-less c =
     let x = c .before in
     let i = x .before .before in
-    let t = i .before in
-    let l = branches i in
-    omega (
-      arith,
-      ap (λ (y : Place). y .symbol) (c .onward .ensures),
-      x .if3 .left,
-      i .loop3 .inv .1,
-      branch-some (kept-in i .ready .usable .table) (l .loop2 .inv .0),
-      t .if2 .taken,
-    )
+    onward-less (kept-in i .ready .usable .table) (i .loop3 .inv .0) (omega (arith, x .if3 .left)) _ (c .onward .ensures) _ (i .before .if2 .taken)
 
 loop2-again : tie.Need-loop2-again Inv-loop3 μ-loop3 Inv-loop2 μ-loop2 Inv-loop μ-loop
 loop2-again c =
@@ -207,7 +193,7 @@ loop2-again c =
     let e = c .onward .ensures in (
       in-onward (kept-in i .ready .usable .table) (i .loop3 .inv .0) (omega (arith, x .if3 .left)) _ e,
       made i ∙ ap (λ (y : Place). visits (codeAt l) (getD (start l .args .thresholds .now) (l .loop .p) 0) (y .symbol) (between l)) (sym e),
-      i .loop3 .inv .4,
+      i .loop3 .inv .2,
     )
 
 add-count : tie.Need-add-count Inv-loop3 μ-loop3 Inv-loop2 μ-loop2 Inv-loop μ-loop
