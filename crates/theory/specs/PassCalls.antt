@@ -16,7 +16,6 @@ use Rattle.theory.specs.Falling.{choose-case, after-sized}
 use Rattle.theory.specs.Runs.{after-append, changes-append}
 use Rattle.theory.specs.Steps.{Sized}
 
--- the passes of a list of calls that were not refused: their visits leave what the calls leave, and have the changes that the calls hand back
 module _ (c : Code) where
   -- what a call leaves where the test of its number is b
   abbrev left : Bool → ℕ → State → Passed ℕ
@@ -26,36 +25,30 @@ module _ (c : Code) where
   abbrev visits : List ℕ → List Visit
   visits ts = passes (dataSymbols c) ts
 
-  pub calls-state : (ps : List PassCall) (st : State) → afterCalls c ps st ≡ after (c .q) (checksOf c) (visits (notRefused c ps st)) st
-  unfolding afterCalls notRefused passOutcome outcome passes after
-  calls-state [] st = refl
-  calls-state (p ∷ ps) st = go (eqb (passAnswer c (p .fits && stateFits c st) (p .threshold) st) 0) (λ b. calls-state ps (left b (p .threshold) st .state))
+  -- the calls leave what those visits leave, and hand back their changes
+  abbrev Made : List PassCall → State → Type 0
+  Made ps st =
+      let vs = visits (notRefused c ps st) in
+      (afterCalls c ps st ≡ after (c .q) (checksOf c) vs st) × (callChanges c ps st ≡ changeCount (c .q) (checksOf c) vs st)
+
+  pub calls-made : (ps : List PassCall) (st : State) → Made ps st
+  unfolding afterCalls callChanges notRefused passOutcome outcome passes after changeCount
+  calls-made [] st = (refl, refl)
+  calls-made (p ∷ ps) st = go (eqb (passAnswer c (p .fits && stateFits c st) (p .threshold) st) 0) (λ b. calls-made ps (left b (p .threshold) st .state))
     where
       t : ℕ
       t = p .threshold
 
-      go : (b : Bool)
-          → ((x : Bool) → afterCalls c ps (left x t st .state) ≡ after (c .q) (checksOf c) (visits (notRefused c ps (left x t st .state))) (left x t st .state))
-          → afterCalls c ps (left b t st .state)
-          ≡ after (c .q) (checksOf c) (visits (choose b (t ∷ notRefused c ps (left b t st .state)) (notRefused c ps (left b t st .state)))) st
-      go true ih = ih true ∙ sym (after-append (c .q) (checksOf c) (pass (dataSymbols c) t) (visits (notRefused c ps (passedState c t st))) st)
-      go false ih = ih false
-
-  pub calls-changes : (ps : List PassCall) (st : State) → callChanges c ps st ≡ changeCount (c .q) (checksOf c) (visits (notRefused c ps st)) st
-  unfolding callChanges notRefused passOutcome outcome passes changeCount
-  calls-changes [] st = refl
-  calls-changes (p ∷ ps) st = go (eqb (passAnswer c (p .fits && stateFits c st) (p .threshold) st) 0) (λ b. calls-changes ps (left b (p .threshold) st .state))
-    where
-      t : ℕ
-      t = p .threshold
-
-      go : (b : Bool)
-          → ((x : Bool) → callChanges c ps (left x t st .state) ≡ changeCount (c .q) (checksOf c) (visits (notRefused c ps (left x t st .state))) (left x t st .state))
-          → left b t st .changes + callChanges c ps (left b t st .state)
-          ≡ changeCount (c .q) (checksOf c) (visits (choose b (t ∷ notRefused c ps (left b t st .state)) (notRefused c ps (left b t st .state)))) st
-      go true ih = ap (λ (n : ℕ). passedChanges c t st + n) (ih true)
-          ∙ sym (changes-append (c .q) (checksOf c) (pass (dataSymbols c) t) (visits (notRefused c ps (passedState c t st))) st)
-      go false ih = omega (arith, ih false)
+      go : (b : Bool) → ((x : Bool) → Made ps (left x t st .state))
+          → let vs = visits (choose b (t ∷ notRefused c ps (left b t st .state)) (notRefused c ps (left b t st .state))) in
+          (afterCalls c ps (left b t st .state) ≡ after (c .q) (checksOf c) vs st)
+          × (left b t st .changes + callChanges c ps (left b t st .state) ≡ changeCount (c .q) (checksOf c) vs st)
+      go true ih =
+          let later : List Visit = visits (notRefused c ps (passedState c t st)) in (
+            ih true .0 ∙ sym (after-append (c .q) (checksOf c) (pass (dataSymbols c) t) later st),
+            ap (λ (n : ℕ). passedChanges c t st + n) (ih true .1) ∙ sym (changes-append (c .q) (checksOf c) (pass (dataSymbols c) t) later st),
+          )
+      go false ih = (ih false .0, omega (arith, ih false .1))
 
 -- ---- which calls are refused
 

@@ -28,7 +28,7 @@ use Rattle.theory.specs.Falling.{InRange, visit-no, weight-falls, falls-
 use Rattle.theory.specs.Margins.{margin-low, margin-high, margin-top, margin-bottom, other-zero, margin-stays, margin-at}
 use Rattle.theory.specs.Moments.{result-is, syndrome-is, changes-few, weight-few}
 use Rattle.theory.specs.OneBranch.{firstTests, run-all, checks-all, check-all, differences-all, answer-all}
-use Rattle.theory.specs.PassCalls.{calls-state, calls-changes, takenOf, calls-taken, taken-all, all-small}
+use Rattle.theory.specs.PassCalls.{calls-made, takenOf, calls-taken, taken-all, all-small}
 use Rattle.theory.specs.Runs.{range-pass, range-passes, symbols-range, symbols-visited}
 use Rattle.theory.specs.Schedule.{smallest-in, smallest-least, runs-few, runs-of, smallest-run, followed, minima}
 use Rattle.theory.specs.Steps.{checkSum, SymbolsBelow, Sized}
@@ -295,7 +295,7 @@ pub calls-run : (c : Code) (page : List ℕ) (lent : State) → openOutcome c pa
 unfolding openOutcome outcome
 calls-run c page lent e calls = subst (CallsRun c page calls) (sym (opened-left c page lent e)) (record {
   left = same;
-  counted = calls-changes c calls st;
+  counted = calls-made c calls st .1;
   falls = visits-fall c page w vs r;
   moment = subst (Moment c page) (sym same) (every-moment c page w vs r);
   recovers = (λ n. rw same (passes-recover c page w (dataSymbols c) (symbols-range c) (symbols-visited c) made (smallest made) (smallest-in made n)));
@@ -321,7 +321,7 @@ calls-run c page lent e calls = subst (CallsRun c page calls) (sym (opened-left 
     r = range-passes (dataCount c) (dataSymbols c) (symbols-range c) made
 
     same : afterCalls c calls st ≡ after (c .q) (checksOf c) vs st
-    same = calls-state c calls st
+    same = calls-made c calls st .0
 
 -- A refused call alters nothing and hands back no change.
 pub call-refused : (c : Code) (p : PassCall) (st : State) → called c p st .number ≢ 0 → _≡_ {A = Passed ℕ} (called c p st .left) (record { state = st; changes = 0 })
@@ -368,8 +368,8 @@ decode-split c others page ts lent e = (
   o,
   subst (λ (st : State). Split c page ts st calls) (sym (opened-left c page lent o)) (record {
     taken = all;
-    state-is = sym (calls-state c calls st ∙ ap (λ (us : List ℕ). after (c .q) (checksOf c) (passes (dataSymbols c) us) st) all);
-    changes-are = sym (calls-changes c calls st ∙ ap (λ (us : List ℕ). changeCount (c .q) (checksOf c) (passes (dataSymbols c) us) st) all);
+    state-is = sym (calls-made c calls st .0 ∙ ap (λ (us : List ℕ). after (c .q) (checksOf c) (passes (dataSymbols c) us) st) all);
+    changes-are = sym (calls-made c calls st .1 ∙ ap (λ (us : List ℕ). changeCount (c .q) (checksOf c) (passes (dataSymbols c) us) st) all);
     passes-are = sym (length-map (passesOf c ts page) fitting);
   }),
 )
