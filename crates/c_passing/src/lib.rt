@@ -10,6 +10,8 @@ ghost use Rattle.model.specs.Demand.{PassFalls};
 ghost use Rattle.params.specs.Codes.{codeBy};
 
 // One pass, with the positions read and a buffer for the zeros. The changes are written only when the call is done.
+// The code's numbers are handed on one by one: a struct copied whole would be compiled into a call of memcpy for Cortex-M0, which the
+// archive is not to need.
 fn pass_into(
     code: Params,
     positions: &[u16],
@@ -27,10 +29,15 @@ fn pass_into(
     } ≡ cPassOutcome (codeBy code (now (positions .entry))) threshold
         (stateBy (now (result .entry)) (now (syndrome .entry)) (now (difference .entry))) (now (changes .entry)) ⌝ }
 {
+    let numbers = Params {
+        q: code.q,
+        k: code.k,
+        b: code.b,
+    };
     let others = changes.len() == 4;
     let passed = passing::pass_with(
         others,
-        code,
+        numbers,
         positions,
         threshold,
         zeros,
