@@ -1,4 +1,5 @@
-/* bench.c - measures the library beside the same calls in C, in one run:  bench [--quick] [--ns] [--rows FILTER]
+/* bench.c - measures the library beside the same calls in C, in one run:
+ *   bench [--quick] [--ns] [--passes] [--rows FILTER]
  *
  * Every page is first put through all implementations, and all they return and write is compared. Then, sweep by sweep,
  * row by row and round by round, each implementation runs in turn; its fastest round counts.
@@ -6,7 +7,8 @@
  *   --quick         fewer and shorter rounds
  *   --ns            nanoseconds a data byte for all, instead of ratios
  *   --rows FILTER   only the rows with FILTER in their name
- *   --count         makes each call of the rows to count once, for bench/count */
+ *   --count         makes each call of the rows to count once, for bench/count
+ *   --passes        the library alone: decode with one threshold beside open and one pass with it */
 #define _POSIX_C_SOURCE 199309L
 #include "calls.h"
 
@@ -333,10 +335,52 @@ static void count_row(const struct row *row)
         }
 }
 
+/* ---- Open and pass ---- */
+
+/* Opens the row's page and makes one pass with its last threshold, or decodes it with that threshold alone: which. */
+static uint32_t make_steps(const struct row *row, int which, struct answer *answer)
+{
+    uint32_t q = row->q, k = row->k, b = row->b, n = row->symbols, number;
+    const uint8_t *table = row->table, *threshold = row->thresholds + sizeof row->thresholds - 1;
+    size_t table_len = 2 * b * row->positions;
+    if (which == 0)
+        return qmtd_decode(q, k, b, table, table_len, row->page, n + k, threshold, 1, answer->result, n,
+                           answer->syndrome, k, answer->difference, n, answer->margins, 4 * n, answer->counts,
+                           sizeof answer->counts);
+    number = qmtd_open(q, k, b, table, table_len, row->page, n + k, answer->result, n, answer->syndrome, k,
+                       answer->difference, n);
+    if (number != QMTD_OK || which == 1)
+        return number;
+    return qmtd_pass(q, k, b, table, table_len, *threshold, answer->result, n, answer->syndrome, k,
+                     answer->difference, n, answer->counts + 4, QMTD_CHANGES_LEN);
+}
+
+/* Decode, open, and open with a pass: the fastest of many rounds of each, in turn, in nanoseconds a data symbol. */
+static int print_steps(const struct row *row)
+{
+    static struct answer answers[3];
+    double best[3] = {1e18, 1e18, 1e18};
+    for (int round = 0; round < 200; round++)
+        for (int which = 0; which < 3; which++) {
+            double start = now();
+            if (make_steps(row, which, &answers[which]) != QMTD_OK)
+                return 0;
+            double taken = (now() - start) / row->symbols;
+            if (taken < best[which])
+                best[which] = taken;
+        }
+    printf("%-36s %8.3f %8.3f %8.3f %8.2f   %7u\n", row->name, best[0], best[1], best[2], best[2] / best[0],
+           (unsigned)number_at(answers[2].counts + 4));
+    return memcmp(answers[0].result, answers[2].result, row->symbols) == 0 &&
+           memcmp(answers[0].difference, answers[2].difference, row->symbols) == 0 &&
+           memcmp(answers[0].syndrome, answers[2].syndrome, row->k) == 0 &&
+           memcmp(answers[0].counts + 4, answers[2].counts + 4, QMTD_CHANGES_LEN) == 0;
+}
+
 int main(int argc, char **argv)
 {
     const char *filter = "";
-    int quick = 0, ns = 0, count = 0;
+    int quick = 0, ns = 0, count = 0, passes = 0;
     for (int i = 1; i < argc; i++)
         if (strcmp(argv[i], "--quick") == 0) {
             quick = 1;
@@ -344,18 +388,23 @@ int main(int argc, char **argv)
             ns = 1;
         } else if (strcmp(argv[i], "--count") == 0) {
             count = 1;
+        } else if (strcmp(argv[i], "--passes") == 0) {
+            passes = 1;
         } else if (strcmp(argv[i], "--rows") == 0 && i + 1 < argc) {
             filter = argv[++i];
         } else {
-            fprintf(stderr, "bench [--quick] [--ns] [--count] [--rows FILTER]\n");
+            fprintf(stderr, "bench [--quick] [--ns] [--count] [--passes] [--rows FILTER]\n");
             return 2;
         }
 
     /* The whole table is swept several times: a burst of other load then spoils one sweep of a row, not all. */
-    int sweeps = quick || count ? 1 : 4, rounds = quick ? 5 : 30, rows = 0;
+    int sweeps = quick || count || passes ? 1 : 4, rounds = quick ? 5 : 30, rows = 0;
     double batch = quick ? 5e5 : 2e6;
     static double best[MAX_ROWS][IMPLEMENTATIONS];
-    if (!count)
+    if (passes)
+        printf("%-36s %8s %8s %8s %8s   %s\n", "ns a data symbol, one threshold, 0", "decode", "open", "and pass",
+               "ratio", "changes");
+    else if (!count)
         print_head(ns);
     for (int sweep = 0; sweep < sweeps; sweep++) {
         rows = 0;
@@ -371,7 +420,12 @@ int main(int argc, char **argv)
                         make_row(&row, &codes[c], alphabets[a], call, damages[d]);
                         if (strstr(row.name, filter) == NULL || (count && !to_count(&row, damages[d])))
                             continue;
-                        if (count) {
+                        if (passes) {
+                            if (call == DECODE && !print_steps(&row)) {
+                                fprintf(stderr, "%s: open and pass give something else than decode\n", row.name);
+                                return 1;
+                            }
+                        } else if (count) {
                             count_row(&row);
                         } else {
                             if (!agree(&row, &answer))

@@ -1,4 +1,5 @@
-/* screen.c - a bench screen: decodes a damaged page and prints its data symbols by how firmly they stand.
+/* screen.c - a bench screen: opens a damaged page and shows it after each pass, then decodes it and prints its data
+ * symbols by how firmly they stand.
  *
  *   screen [REPLACED]    how many of the page's 512 symbols the lead replaces; 80 where it is not given
  *
@@ -12,12 +13,13 @@
 #include <unistd.h>
 
 /* One branch of 256 data symbols of any byte value, positions 0, 1, 3, 7. */
-enum { Q = 256, K = 256, B = 1, J = 4, ROWS = 16, COLUMNS = 16 };
+enum { Q = 256, K = 256, B = 1, J = 4, ROWS = 16, COLUMNS = 16, IN_LINE = 32 };
 static const uint8_t table[QMTD_TABLE_LEN(B, J)] = {0, 0, 1, 0, 3, 0, 7, 0};
 static const uint8_t thresholds[] = {1, 0, 0, 0, 0, 0, 0, 0};
 
 static uint8_t sent[K], page[QMTD_PAGE_LEN(K, B)];
-static uint8_t result[K], syndrome[K], difference[K], margins[QMTD_MARGINS_LEN(K, B)], counts[QMTD_COUNTS_LEN];
+static uint8_t result[K], syndrome[K], difference[K], changes[QMTD_CHANGES_LEN];
+static uint8_t margins[QMTD_MARGINS_LEN(K, B)], counts[QMTD_COUNTS_LEN];
 
 /* How a symbol stands: firm where its margin is above J/2, weak where another value has at least as many votes as 0. */
 enum standing { FIRM, DOUBTFUL, WEAK, STANDINGS };
@@ -81,6 +83,79 @@ static const char *no_colour(int colours)
     return colours ? "\033[0m" : "";
 }
 
+static unsigned number_at(const uint8_t *bytes)
+{
+    return bytes[0] | bytes[1] << 8 | bytes[2] << 16 | (unsigned)bytes[3] << 24;
+}
+
+static unsigned nonzero(const uint8_t *symbols)
+{
+    unsigned count = 0;
+    for (unsigned i = 0; i < K; i++)
+        count += symbols[i] != 0;
+    return count;
+}
+
+/* A line's symbols, marked where they are not 0. */
+static void print_marks(const uint8_t *symbols, int colours)
+{
+    for (int i = 0; i < IN_LINE; i++) {
+        if (i % COLUMNS == 0)
+            printf(" ");
+        if (symbols[i] == 0)
+            printf(".");
+        else
+            printf("%s#%s", colour(DOUBTFUL, colours), no_colour(colours));
+    }
+}
+
+/* The page as the opening or a pass left it: the difference on the left, the syndrome on the right. Data symbol j is in
+ * the checks j, j + 1, j + 3, j + 7 (mod K): these stand at its place and right after it. Where nothing was changed the
+ * view before serves still. */
+static void print_view(int changed, int colours)
+{
+    printf(": %u data symbols differ, %u checks are not 0\n", nonzero(difference), nonzero(syndrome));
+    for (int at = 0; changed && at < K; at += IN_LINE) {
+        printf("%5d ", at);
+        print_marks(difference + at, colours);
+        printf("   ");
+        print_marks(syndrome + at, colours);
+        printf("\n");
+    }
+    printf("\n");
+}
+
+/* Which pass decode makes after the one at a place of the list: the next, or after one without a change the first later
+ * one with a smaller threshold. */
+static size_t next_pass(size_t at, unsigned made)
+{
+    size_t next = at + 1;
+    while (made == 0 && next < sizeof thresholds && thresholds[next] >= thresholds[at])
+        next++;
+    return next;
+}
+
+/* Opens the page and makes decode's passes one by one, with a view after each. Were all calls taken? */
+static int show_passes(int colours)
+{
+    unsigned passes = 0, made = 0;
+    printf("The page after each pass, %d data symbols and %d checks in a line: # on the left is a data symbol that\n"
+           "differs from the one received, # on the right a check that is not 0.\n\n", IN_LINE, IN_LINE);
+    if (qmtd_open(Q, K, B, table, sizeof table, page, sizeof page, result, K, syndrome, K, difference, K) != QMTD_OK)
+        return 0;
+    printf("Opened");
+    print_view(1, colours);
+    for (size_t at = 0; at < sizeof thresholds; at = next_pass(at, made)) {
+        if (qmtd_pass(Q, K, B, table, sizeof table, thresholds[at], result, K, syndrome, K, difference, K,
+                      changes, sizeof changes) != QMTD_OK)
+            return 0;
+        made = number_at(changes);
+        printf("Pass %u, threshold %d, changes %u", ++passes, thresholds[at], made);
+        print_view(made > 0, colours);
+    }
+    return 1;
+}
+
 static void print_page(int colours)
 {
     printf("Allowed current in ampere, a row for each temperature, charge 0/16 to 15/16:\n");
@@ -110,12 +185,6 @@ static void print_legend(int colours)
                shown[s].name, no_colour(colours), shown[s].margin, all[s], wrong[s]);
 }
 
-static unsigned count(int which)
-{
-    const uint8_t *c = counts + 4 * which;
-    return c[0] | c[1] << 8 | c[2] << 16 | (unsigned)c[3] << 24;
-}
-
 int main(int argc, char **argv)
 {
     char *end = NULL;
@@ -128,14 +197,15 @@ int main(int argc, char **argv)
     if (qmtd_encode(Q, K, B, table, sizeof table, sent, K, page, sizeof page) != QMTD_OK)
         return 1;
     damage((unsigned)replaced);
+    int colours = in_colour();
+    if (!show_passes(colours))
+        return 1;
     if (qmtd_decode(Q, K, B, table, sizeof table, page, sizeof page, thresholds, sizeof thresholds, result, K,
                     syndrome, K, difference, K, margins, sizeof margins, counts, sizeof counts) != QMTD_OK)
         return 1;
-
-    int colours = in_colour();
     print_page(colours);
     print_legend(colours);
     printf("%lu symbols replaced; passes %u, changes %u, distance %u at the start, %u at the end\n", replaced,
-           count(0), count(1), count(2), count(3));
+           number_at(counts), number_at(counts + 4), number_at(counts + 8), number_at(counts + 12));
     return 0;
 }

@@ -7,6 +7,8 @@
  *   - works out a page's syndrome       qmtd_syndrome
  *   - decodes a received page, with how firmly each of its data symbols then stands
  *                                       qmtd_decode
+ *   - opens a received page, and makes one pass of the decoder on it, so that the page can be looked at between passes
+ *                                       qmtd_open, qmtd_pass
  *
  * WHAT IT DOES NOT DO. Damage means that a symbol is replaced by another: lost or inserted symbols are not handled.
  * There are no convolutional codes, no soft decisions and no simulated channels. Decoding is no checksum: QMTD_OK says
@@ -15,6 +17,7 @@
  *   If at most t symbols of an encoded page were replaced and 2 * t + (smallest threshold of the list) <= J,
  *   then the result is the data that was encoded.
  *
+ * Of passes made one by one it is promised with the smallest threshold among those that were not refused (qmtd_pass).
  * Beyond that bound every change brings the answer nearer to the received page, but not always to what was sent.
  *
  * THE CODE. All sums are taken modulo q. The b * k data symbols are numbered through: symbol i of branch r has the
@@ -30,7 +33,7 @@
  *   - Refusals are tested in the order 1, 2, 10, 3, 4, .. 9, and the first that applies is returned.
  *   - A refused call changes no byte of the memory lent to it.
  *   - What is const is only read. What is lent for an answer is written whole when the call returns QMTD_OK; what it
- *     held before does not matter.
+ *     held before does not matter. Only qmtd_pass has buffers that it reads and writes.
  *   - The pieces of memory lent in one call must not overlap. No call can see that: it is for the caller to keep.
  *   - A pointer may be null where its length is 0. All such calls are refused, since nothing here may be empty.
  *   - A length is a uint64_t on every processor, since a length has 64 bits in the library's own language. A size_t or
@@ -59,7 +62,7 @@ extern "C" {
 /* ---- Version ---- */
 
 #define QMTD_VERSION_MAJOR 0
-#define QMTD_VERSION_MINOR 5
+#define QMTD_VERSION_MINOR 6
 #define QMTD_VERSION_PATCH 0
 #define QMTD_VERSION_NUMBER (QMTD_VERSION_MAJOR * 10000 + QMTD_VERSION_MINOR * 100 + QMTD_VERSION_PATCH)
 
@@ -86,6 +89,7 @@ extern "C" {
 #define QMTD_MARGIN_LEN 4                      /* a margin */
 #define QMTD_MARGINS_LEN(k, b) (4 * (b) * (k)) /* the margins of a decode, one for each data symbol */
 #define QMTD_COUNTS_LEN 16                     /* the counts of a decode */
+#define QMTD_CHANGES_LEN 4                     /* the changes of a pass */
 #define QMTD_MAX_TABLE_LEN QMTD_TABLE_LEN(QMTD_MAX_B, QMTD_MAX_J) /* the longest table */
 #define QMTD_MAX_PAGE_LEN (QMTD_MAX_DATA + QMTD_MAX_K)            /* the longest page */
 
@@ -192,6 +196,50 @@ static inline int32_t qmtd_margin(const uint8_t *margins, uint64_t j)
     margin = margin * 256 + bytes[1];
     return margin * 256 + bytes[0];
 }
+
+/* Opens a received page: fills what decoding starts from, for qmtd_pass to work on. The page is not needed after that.
+ *   page        read: (b + 1) * k symbols
+ *   result      written whole: b * k symbols, the received data
+ *   syndrome    written whole: k symbols, as qmtd_syndrome writes them
+ *   difference  written whole: b * k symbols, all 0
+ * Returns QMTD_OK, or 1 to 7 or 10; refused, result, syndrome and difference are left as they were. */
+QMTD_MUST_USE
+uint32_t qmtd_open(uint32_t q, uint32_t k, uint32_t b, const uint8_t *table, uint64_t table_len,
+                   const uint8_t *page, uint64_t page_len,
+                   uint8_t *result, uint64_t result_len,
+                   uint8_t *syndrome, uint64_t syndrome_len,
+                   uint8_t *difference, uint64_t difference_len);
+
+/* Makes one pass with one threshold: visits data symbols 0 to b * k - 1 once each, in this order, as qmtd_decode says.
+ *   threshold   from 0 to 32
+ *   result      read and written: b * k symbols
+ *   syndrome    read and written: k symbols
+ *   difference  read and written: b * k symbols. The three are as qmtd_open or the last pass left them, or hold any
+ *               symbols below q.
+ *   changes     written whole: 4 bytes, a 32-bit number, low byte first: the changes of this pass. A pass that changes
+ *               nothing leaves the other three buffers as they were.
+ * Whatever symbols below q the buffers hold, each change lowers the number of nonzero symbols of syndrome and
+ * difference together by more than the threshold, and every other visit leaves the buffers as they were.
+ *
+ * The rest is promised of the buffers of an opened page, as long as nothing has altered them since but passes with the
+ * q, k, b and table of the opening. A refused pass makes no visit and counts for nothing.
+ *   - After each pass the result is the received data plus the difference, and the syndrome is the check symbols
+ *     encoded from the result minus the received ones. So the nonzero symbols of syndrome and difference together
+ *     number the places where the page encoded from the result differs from the received page: the distance of
+ *     qmtd_decode.
+ *   - If at most t symbols of an encoded page were replaced and 2 * t + (smallest threshold of the passes that were not
+ *     refused) <= J, then the result is the data that was encoded. Before the first such pass nothing is said.
+ *   - Passes in turn with the thresholds of those that qmtd_decode runs leave its result, syndrome and difference; it
+ *     counts as many passes, and their changes together. No pass is skipped here: the caller says when to stop.
+ * Returns QMTD_OK, or 1 to 7, 9 or 10: 6 also where changes_len is not 4, 7 for a symbol of any of the three buffers.
+ * Refused, result, syndrome, difference and changes are left as they were. */
+QMTD_MUST_USE
+uint32_t qmtd_pass(uint32_t q, uint32_t k, uint32_t b, const uint8_t *table, uint64_t table_len,
+                   uint32_t threshold,
+                   uint8_t *result, uint64_t result_len,
+                   uint8_t *syndrome, uint64_t syndrome_len,
+                   uint8_t *difference, uint64_t difference_len,
+                   uint8_t *changes, uint64_t changes_len);
 
 #ifdef __cplusplus
 }

@@ -1,7 +1,7 @@
 /* boundary.c - what the reference pages cannot hold: null pointers, the length of the counts, names in the header, the
  * reading of a margin, every length of a table with every b, unaligned memory, which passes of a list are run on the
- * page of case 7 and on clean ones, and the promise that data comes back from a page with few enough symbols
- * replaced. */
+ * page of case 7 and on clean ones, passes made one by one on the buffers of an opened page, refused ones between them,
+ * and the promise that data comes back from a page with few enough symbols replaced. */
 #include "qmtd.h"
 
 #include <stdio.h>
@@ -28,9 +28,10 @@ static const uint8_t table_3[QMTD_TABLE_LEN(3, 4)] = {0, 0, 1, 0, 4, 0, 13, 0,
                                                       0, 0, 2, 0, 17, 0, 24, 0,
                                                       0, 0, 5, 0, 26, 0, 34, 0};
 
-/* All that a decode takes, in memory of exactly the right length; the calls below pass parts of it. */
+/* All that a call takes, in memory of exactly the right length; the calls below are lent parts of it. */
 static uint8_t data[K], page[QMTD_PAGE_LEN(K, 1)], thresholds[2];
 static uint8_t result[K], syndrome[K], difference[K], margins[QMTD_MARGINS_LEN(K, 1)], counts[QMTD_COUNTS_LEN];
+static uint8_t changes[QMTD_CHANGES_LEN];
 
 /* Data and page all 0, thresholds 0, 0; every lent answer full of 0xEE. */
 static void prepare(void)
@@ -43,6 +44,7 @@ static void prepare(void)
     memset(difference, 0xEE, sizeof difference);
     memset(margins, 0xEE, sizeof margins);
     memset(counts, 0xEE, sizeof counts);
+    memset(changes, 0xEE, sizeof changes);
 }
 
 static int all(const uint8_t *bytes, size_t len, uint8_t value)
@@ -57,7 +59,7 @@ static int answers_untouched(void)
 {
     return all(result, sizeof result, 0xEE) && all(syndrome, sizeof syndrome, 0xEE) &&
            all(difference, sizeof difference, 0xEE) && all(margins, sizeof margins, 0xEE) &&
-           all(counts, sizeof counts, 0xEE);
+           all(counts, sizeof counts, 0xEE) && all(changes, sizeof changes, 0xEE);
 }
 
 /* A decode of code A at q = 5 with the given table, page, thresholds and length of the counts. */
@@ -126,6 +128,33 @@ static void null_with_length_0(void)
     EXPECT(answers_untouched() && all(page, sizeof page, 0));
 }
 
+static void null_in_open_and_pass(void)
+{
+    const uint8_t *t = table_a;
+    const size_t n = sizeof table_a;
+    prepare();
+
+    EXPECT(qmtd_open(5, K, 1, NULL, 0, page, 2 * K, result, K, syndrome, K, difference, K) == QMTD_BAD_J);
+    EXPECT(qmtd_open(5, K, 1, t, n, NULL, 0, result, K, syndrome, K, difference, K) == QMTD_BAD_LENGTH);
+    EXPECT(qmtd_open(5, K, 1, t, n, page, 2 * K, NULL, 0, syndrome, K, difference, K) == QMTD_BAD_LENGTH);
+    EXPECT(qmtd_open(5, K, 1, t, n, page, 2 * K, result, K, NULL, 0, difference, K) == QMTD_BAD_LENGTH);
+    EXPECT(qmtd_open(5, K, 1, t, n, page, 2 * K, result, K, syndrome, K, NULL, 0) == QMTD_BAD_LENGTH);
+    EXPECT(qmtd_open(5, K, 1, t, n, NULL, 0, NULL, 0, NULL, 0, NULL, 0) == QMTD_BAD_LENGTH);
+    EXPECT(qmtd_open(5, 0, 1, t, n, NULL, 0, NULL, 0, NULL, 0, NULL, 0) == QMTD_BAD_K);
+    EXPECT(qmtd_open(0, 0, 1, NULL, 0, NULL, 0, NULL, 0, NULL, 0, NULL, 0) == QMTD_BAD_Q);
+
+    EXPECT(qmtd_pass(5, K, 1, NULL, 0, 0, result, K, syndrome, K, difference, K, changes, 4) == QMTD_BAD_J);
+    EXPECT(qmtd_pass(5, K, 1, t, n, 0, NULL, 0, syndrome, K, difference, K, changes, 4) == QMTD_BAD_LENGTH);
+    EXPECT(qmtd_pass(5, K, 1, t, n, 0, result, K, NULL, 0, difference, K, changes, 4) == QMTD_BAD_LENGTH);
+    EXPECT(qmtd_pass(5, K, 1, t, n, 0, result, K, syndrome, K, NULL, 0, changes, 4) == QMTD_BAD_LENGTH);
+    EXPECT(qmtd_pass(5, K, 1, t, n, 0, result, K, syndrome, K, difference, K, NULL, 0) == QMTD_BAD_LENGTH);
+    EXPECT(qmtd_pass(5, K, 1, t, n, 0, NULL, 0, NULL, 0, NULL, 0, NULL, 0) == QMTD_BAD_LENGTH);
+    EXPECT(qmtd_pass(5, 0, 1, t, n, 0, NULL, 0, NULL, 0, NULL, 0, NULL, 0) == QMTD_BAD_K);
+    EXPECT(qmtd_pass(0, 0, 1, NULL, 0, 33, NULL, 0, NULL, 0, NULL, 0, NULL, 0) == QMTD_BAD_Q);
+
+    EXPECT(answers_untouched() && all(page, sizeof page, 0));
+}
+
 /* The counts are a lent buffer like the others: 6, after 1 to 5 and before 7 to 9. */
 static void counts_length(void)
 {
@@ -170,6 +199,8 @@ static void odd_table(void)
     EXPECT(qmtd_check_table(5, QMTD_MAX_K + 1, 1, table_a, 7) == QMTD_BAD_K);
     EXPECT(qmtd_encode(5, K, 1, table_a, 7, data, 0, page, 0) == QMTD_BAD_J);
     EXPECT(qmtd_syndrome(5, K, 1, table_a, 7, page, 0, syndrome, 0) == QMTD_BAD_J);
+    EXPECT(qmtd_open(5, K, 1, table_a, 7, page, 0, result, 0, syndrome, 0, difference, 0) == QMTD_BAD_J);
+    EXPECT(qmtd_pass(5, K, 1, table_a, 7, 33, result, 0, syndrome, 0, difference, 0, changes, 0) == QMTD_BAD_J);
     EXPECT(answers_untouched());
 }
 
@@ -223,7 +254,7 @@ static void margin_bytes(void)
     EXPECT(QMTD_MARGIN_LEN == 4 && sizeof bytes == QMTD_MARGINS_LEN(sizeof numbers / sizeof numbers[0], 1));
 }
 
-/* Case 9 of document 01 with every piece at every distance from an aligned address. */
+/* Case 9 of document 01, decoded and by one pass, with every piece at every distance from an aligned address. */
 static void unaligned(void)
 {
     static const uint8_t case_9_counts[QMTD_COUNTS_LEN] = {2, 0, 0, 0, 2, 0, 0, 0, 7, 0, 0, 0, 2, 0, 0, 0};
@@ -248,6 +279,13 @@ static void unaligned(void)
         for (size_t j = 0; j < K; j++)
             EXPECT(qmtd_margin(at[6], j) == (j < 2 ? J - 1 : J + 1));
         EXPECT(memcmp(at[7], case_9_counts, sizeof case_9_counts) == 0);
+
+        EXPECT(qmtd_open(256, K, 1, at[0], sizeof table_a, at[1], 2 * K, at[3], K, at[4], K, at[5], K) == QMTD_OK);
+        EXPECT(memcmp(at[3], at[1], K) == 0 && all(at[5], K, 0));
+        EXPECT(qmtd_pass(256, K, 1, at[0], sizeof table_a, 0, at[3], K, at[4], K, at[5], K, at[6],
+                         QMTD_CHANGES_LEN) == QMTD_OK);
+        EXPECT(all(at[3], K, 0) && all(at[4], K, 0) && at[5][0] == 249 && at[5][1] == 253 && all(at[5] + 2, K - 2, 0));
+        EXPECT(number_at(at[6]) == 2);
 
         EXPECT(qmtd_syndrome(256, K, 1, at[0], sizeof table_a, at[1], 2 * K, at[4], K) == QMTD_OK);
         EXPECT(at[4][0] == 7 && at[4][1] == 10 && at[4][2] == 3 && at[4][5] == 3);
@@ -287,6 +325,39 @@ static void falling_thresholds(void)
     }
 }
 
+/* The page of case 7 opened, then passes on the same buffers, refused ones between those that are made. Each gets what
+ * the last one left. */
+static void one_by_one(void)
+{
+    static const struct {
+        uint32_t threshold;
+        uint64_t difference_len, changes_len;
+        uint32_t number;
+        uint8_t changes, symbol;
+    } calls[] = {
+        {33, K, 4, QMTD_BAD_THRESHOLD, 0xEE, 7},   {3, K, 4, QMTD_OK, 0, 7},
+        {0, K - 1, 4, QMTD_BAD_LENGTH, 0xEE, 7},   {0, K, 3, QMTD_BAD_LENGTH, 0xEE, 7},
+        {0, K, 0, QMTD_BAD_LENGTH, 0xEE, 7},       {0xFFFFFFFF, K, 4, QMTD_BAD_THRESHOLD, 0xEE, 7},
+        {2, K, 4, QMTD_OK, 1, 0},                  {33, K, 3, QMTD_BAD_LENGTH, 0xEE, 0},
+        {0, K, 4, QMTD_OK, 0, 0},
+    };
+    prepare();
+    page[0] = 7;
+    EXPECT(qmtd_open(256, K, 1, table_a, sizeof table_a, page, sizeof page, result, K, syndrome, K, difference, K) ==
+           QMTD_OK);
+    EXPECT(all(difference, K, 0) && syndrome[0] == 7 && syndrome[1] == 7 && syndrome[4] == 7 && syndrome[6] == 7);
+    for (size_t i = 0; i < sizeof calls / sizeof calls[0]; i++) {
+        memset(changes, 0xEE, sizeof changes);
+        EXPECT(qmtd_pass(256, K, 1, table_a, sizeof table_a, calls[i].threshold, result, K, syndrome, K,
+                         difference, calls[i].difference_len, changes, calls[i].changes_len) == calls[i].number);
+        EXPECT(changes[0] == calls[i].changes && all(changes + 1, 3, calls[i].number == QMTD_OK ? 0 : 0xEE));
+        EXPECT(result[0] == calls[i].symbol && difference[0] == (calls[i].symbol == 7 ? 0 : 249));
+        EXPECT(all(result + 1, K - 1, 0) && all(difference + 1, K - 1, 0));
+        EXPECT(calls[i].symbol == 7 ? syndrome[0] == 7 : all(syndrome, K, 0));
+    }
+    EXPECT(QMTD_CHANGES_LEN == 4 && sizeof changes == QMTD_CHANGES_LEN);
+}
+
 /* A small generator of our own, so that a failure can be had again. */
 static uint32_t below(uint32_t n)
 {
@@ -309,9 +380,95 @@ static int32_t margin_of(uint32_t k, const uint8_t *table, uint32_t j, const uin
     return votes[0] - most;
 }
 
+/* What passes work on: result, difference and syndrome, one after the other; and what they held before a call. */
+static uint8_t opened[2 * QMTD_MAX_DATA + QMTD_MAX_K], before[sizeof opened];
+
+static uint32_t nonzero(const uint8_t *symbols, uint32_t len)
+{
+    uint32_t count = 0;
+    for (uint32_t i = 0; i < len; i++)
+        count += symbols[i] != 0;
+    return count;
+}
+
+/* Makes a pass and returns its changes. Each lowers the nonzero symbols of syndrome and difference by more than the
+ * threshold, and result minus difference stays. */
+static uint32_t pass(uint32_t q, uint32_t k, uint32_t b, const uint8_t *table, uint32_t table_len, uint32_t threshold)
+{
+    const uint32_t n = QMTD_DATA_LEN(k, b);
+    uint8_t bytes[QMTD_CHANGES_LEN];
+    memcpy(before, opened, 2 * n + k);
+    EXPECT(qmtd_pass(q, k, b, table, table_len, threshold, opened, n, opened + 2 * n, k, opened + n, n,
+                     bytes, sizeof bytes) == QMTD_OK);
+    uint32_t made = number_at(bytes);
+    EXPECT(nonzero(opened + n, n + k) + made * (threshold + 1) <= nonzero(before + n, n + k));
+    for (uint32_t i = 0; i < n; i++)
+        EXPECT((opened[i] + before[n + i]) % q == (before[i] + opened[n + i]) % q);
+    EXPECT((made == 0) == (memcmp(opened, before, 2 * n + k) == 0));
+    return made;
+}
+
+/* A pass that is refused, in one of eight ways, leaves every byte. */
+static void refused_pass(uint32_t q, uint32_t k, uint32_t b, const uint8_t *table, uint32_t table_len)
+{
+    const uint32_t n = QMTD_DATA_LEN(k, b), way = below(8);
+    const uint32_t threshold = way == 0 ? QMTD_MAX_THRESHOLD + 1 : way == 1 ? 0xFFFFFFFF - below(100) : 0;
+    const uint32_t changes_len = way == 5 ? 0 : way == 6 ? 3 : way == 7 ? 5 : QMTD_CHANGES_LEN;
+    uint8_t bytes[5];
+    memset(bytes, 0xEE, sizeof bytes);
+    memcpy(before, opened, 2 * n + k);
+    EXPECT(qmtd_pass(q, k, b, table, table_len, threshold, opened, n - (way == 2), opened + 2 * n, k - (way == 3),
+                     opened + n, n - (way == 4), bytes, changes_len) ==
+           (way < 2 ? QMTD_BAD_THRESHOLD : QMTD_BAD_LENGTH));
+    EXPECT(all(bytes, sizeof bytes, 0xEE) && memcmp(opened, before, 2 * n + k) == 0);
+}
+
+/* What a decode handed back. */
+struct decoded {
+    const uint8_t *result, *syndrome, *difference, *counts;
+};
+
+/* The page opened, and the passes that decode runs with this list made one by one, refused ones between them: they
+ * leave decode's result, syndrome and difference, and are as many with as many changes. */
+static void passes_of(uint32_t q, uint32_t k, uint32_t b, const uint8_t *table, uint32_t table_len,
+                      const uint8_t *received, const uint8_t *list, uint32_t list_len, struct decoded decoded)
+{
+    const uint32_t n = QMTD_DATA_LEN(k, b);
+    uint32_t passes = 0, sum = 0;
+    EXPECT(qmtd_open(q, k, b, table, table_len, received, QMTD_PAGE_LEN(k, b), opened, n, opened + 2 * n, k,
+                     opened + n, n) == QMTD_OK);
+    EXPECT(memcmp(opened, received, n) == 0 && all(opened + n, n, 0));
+    for (uint32_t at = 0; at < list_len;) {
+        uint32_t threshold = list[at++];
+        refused_pass(q, k, b, table, table_len);
+        uint32_t made = pass(q, k, b, table, table_len, threshold);
+        passes++;
+        sum += made;
+        while (made == 0 && at < list_len && list[at] >= threshold)
+            at++;
+    }
+    refused_pass(q, k, b, table, table_len);
+    EXPECT(passes == number_at(decoded.counts) && sum == number_at(decoded.counts + 4));
+    EXPECT(memcmp(opened, decoded.result, n) == 0 && memcmp(opened + n, decoded.difference, n) == 0 &&
+           memcmp(opened + 2 * n, decoded.syndrome, k) == 0);
+}
+
+/* Passes on buffers that no page was opened into: any result, and few values in the others, so that many agree. */
+static void passes_on_any(uint32_t q, uint32_t k, uint32_t b, const uint8_t *table, uint32_t j)
+{
+    const uint32_t n = QMTD_DATA_LEN(k, b);
+    for (uint32_t i = 0; i < 2 * n + k; i++)
+        opened[i] = (uint8_t)below(i < n ? q : 3);
+    for (uint32_t threshold = j + 2; threshold-- > 0;) {
+        refused_pass(q, k, b, table, QMTD_TABLE_LEN(b, j));
+        pass(q, k, b, table, QMTD_TABLE_LEN(b, j), threshold);
+    }
+}
+
 /* At most t of a page's symbols replaced, 2 * t + (smallest threshold) <= J: decode gives the data back, wherever the
- * smallest stands in the list and whatever the others are. The distance at the end is that of the page encoded from the
- * result, and the margins are those of the syndrome and the difference handed back. */
+ * smallest stands in the list and whatever the others are, and so do its passes made one by one. The distance at the
+ * end is that of the page encoded from the result, and the margins are those of the syndrome and the difference handed
+ * back. */
 static void recovery_of(uint32_t q, uint32_t k, uint32_t b, const uint8_t *table, uint32_t j, int rounds)
 {
     static uint8_t sent[QMTD_MAX_DATA], back[QMTD_MAX_DATA], s[QMTD_MAX_K], d[QMTD_MAX_DATA];
@@ -341,19 +498,17 @@ static void recovery_of(uint32_t q, uint32_t k, uint32_t b, const uint8_t *table
         EXPECT(memcmp(back, sent, n) == 0);
         EXPECT(number_at(c + 12) == replaced);
 
-        uint32_t nonzero = 0;
         EXPECT(qmtd_encode(q, k, b, table, table_len, back, n, again, page_len) == QMTD_OK);
-        for (uint32_t i = 0; i < k; i++) {
-            nonzero += s[i] != 0;
+        for (uint32_t i = 0; i < k; i++)
             EXPECT((received[n + i] + s[i]) % q == again[n + i]);
-        }
         for (uint32_t i = 0; i < n; i++) {
-            nonzero += d[i] != 0;
             EXPECT((received[i] + d[i]) % q == back[i]);
             EXPECT(qmtd_margin(m, i) == margin_of(k, table, j, s, d, i));
         }
-        EXPECT(nonzero == replaced);
+        EXPECT(nonzero(s, k) + nonzero(d, n) == replaced);
+        passes_of(q, k, b, table, table_len, received, list, list_len, (struct decoded){back, s, d, c});
     }
+    passes_on_any(q, k, b, table, j);
 }
 
 static void recovery(void)
@@ -409,6 +564,12 @@ static void branches(void)
                            margins, sizeof margins, counts, sizeof counts) == QMTD_BAD_BRANCHES);
         EXPECT(qmtd_decode(5, K, b, NULL, 0, NULL, 0, NULL, 0, NULL, 0, NULL, 0, NULL, 0, NULL, 0, NULL, 0) ==
                QMTD_BAD_BRANCHES);
+        EXPECT(qmtd_open(5, K, b, table_a, n, page, sizeof page, result, K, syndrome, K, difference, K) ==
+               QMTD_BAD_BRANCHES);
+        EXPECT(qmtd_open(5, K, b, NULL, 0, NULL, 0, NULL, 0, NULL, 0, NULL, 0) == QMTD_BAD_BRANCHES);
+        EXPECT(qmtd_pass(5, K, b, table_a, n, 33, result, K, syndrome, K, difference, K, changes, 4) ==
+               QMTD_BAD_BRANCHES);
+        EXPECT(qmtd_pass(5, K, b, NULL, 0, 33, NULL, 0, NULL, 0, NULL, 0, NULL, 0) == QMTD_BAD_BRANCHES);
     }
     EXPECT(answers_untouched() && all(page, sizeof page, 0));
 
@@ -436,12 +597,14 @@ int main(void)
     setvbuf(stdout, NULL, _IONBF, 0); /* what was found is shown even if the archive crashes the program */
     version();
     null_with_length_0();
+    null_in_open_and_pass();
     counts_length();
     odd_table();
     names();
     margin_bytes();
     unaligned();
     falling_thresholds();
+    one_by_one();
     branches();
     recovery();
     printf("%d failures\n", failures);

@@ -34,8 +34,10 @@ static const uint8_t received[2 * K] = {7, 3};
 static const uint8_t thresholds[] = {0, 0};
 static const uint8_t expected_difference[K] = {249, 253};
 static const uint8_t expected_counts[QMTD_COUNTS_LEN] = {[0] = 2, [4] = 2, [8] = 7, [12] = 2};
+static const uint8_t expected_changes[QMTD_CHANGES_LEN] = {2};
 
 static uint8_t page[2 * K], result[K], syndrome[K], difference[K], margins[4 * K], counts[QMTD_COUNTS_LEN];
+static uint8_t changes[QMTD_CHANGES_LEN];
 
 static int same(const uint8_t *a, const uint8_t *b, size_t len)
 {
@@ -49,6 +51,12 @@ static uint32_t decode(uint32_t q)
 {
     return qmtd_decode(q, K, 1, table, sizeof table, received, sizeof received, thresholds, sizeof thresholds,
                        result, K, syndrome, K, difference, K, margins, sizeof margins, counts, sizeof counts);
+}
+
+static uint32_t pass(uint32_t threshold)
+{
+    return qmtd_pass(256, K, 1, table, sizeof table, threshold, result, K, syndrome, K, difference, K,
+                     changes, sizeof changes);
 }
 
 /* Nothing but d(0) and d(1) is left that is not 0. */
@@ -83,5 +91,15 @@ int run(void)
         return 6;
     if (decode(257) != QMTD_BAD_Q || !margins_right() || !same(counts, expected_counts, sizeof counts))
         return 7;
+    if (qmtd_open(256, K, 1, table, sizeof table, received, sizeof received, result, K, syndrome, K, difference, K) !=
+            QMTD_OK ||
+        !same(result, received, K) || !same(difference, zeros, K))
+        return 8;
+    if (pass(0) != QMTD_OK || !same(result, zeros, K) || !same(syndrome, zeros, K) ||
+        !same(difference, expected_difference, K) || !same(changes, expected_changes, sizeof changes))
+        return 9;
+    if (pass(33) != QMTD_BAD_THRESHOLD || !same(difference, expected_difference, K) ||
+        !same(changes, expected_changes, sizeof changes))
+        return 10;
     return 0;
 }

@@ -10,6 +10,8 @@ typedef uint32_t check_table_call(uint32_t, uint32_t, uint32_t, READ);
 typedef uint32_t encode_call(uint32_t, uint32_t, uint32_t, READ, READ, LENT);
 typedef uint32_t syndrome_call(uint32_t, uint32_t, uint32_t, READ, READ, LENT);
 typedef uint32_t decode_call(uint32_t, uint32_t, uint32_t, READ, READ, READ, LENT, LENT, LENT, LENT, LENT);
+typedef uint32_t open_call(uint32_t, uint32_t, uint32_t, READ, READ, LENT, LENT, LENT);
+typedef uint32_t pass_call(uint32_t, uint32_t, uint32_t, READ, uint32_t, LENT, LENT, LENT, LENT);
 typedef int32_t margin_reader(const uint8_t *, uint64_t);
 
 extern const struct calls {
@@ -18,8 +20,10 @@ extern const struct calls {
     encode_call *encode;
     syndrome_call *syndrome;
     decode_call *decode;
+    open_call *open;
+    pass_call *pass;
     margin_reader *margin;
 } calls;
 
 const struct calls calls = {qmtd_version, qmtd_check_table, qmtd_encode, qmtd_syndrome, qmtd_decode,
-                            qmtd_margin};
+                            qmtd_open, qmtd_pass, qmtd_margin};

@@ -44,6 +44,16 @@ static uint32_t decode(const uint32_t *n, const struct piece *p)
                        LENT(p[6]), LENT(p[7]));
 }
 
+static uint32_t open_page(const uint32_t *n, const struct piece *p)
+{
+    return qmtd_open(n[0], n[1], n[2], LENT(p[0]), LENT(p[1]), LENT(p[2]), LENT(p[3]), LENT(p[4]));
+}
+
+static uint32_t pass(const uint32_t *n, const struct piece *p)
+{
+    return qmtd_pass(n[0], n[1], n[2], LENT(p[0]), n[3], LENT(p[1]), LENT(p[2]), LENT(p[3]), LENT(p[4]));
+}
+
 /* The calls by their number in the file: name, how many numbers each takes, the names of its pieces, the call itself.
  * Number 0 is no call: it opens a group, whose name is the piece. */
 static const struct call {
@@ -57,6 +67,8 @@ static const struct call {
     {"encode", 3, {"table", "data", "page"}, encode},
     {"syndrome", 3, {"table", "page", "syndrome"}, syndrome},
     {"decode", 3, {"table", "page", "thresholds", "result", "syndrome", "difference", "margins", "counts"}, decode},
+    {"open", 3, {"table", "page", "result", "syndrome", "difference"}, open_page},
+    {"pass", 4, {"table", "result", "syndrome", "difference", "changes"}, pass},
 };
 enum { OPEN_GROUP, CALLS = sizeof calls / sizeof calls[0] };
 

@@ -23,7 +23,7 @@ static const struct code {
 } codes[] = {{"b = 1", K, 1, ruler, sizeof ruler}, {"b = 8", PAIRS_K, QMTD_MAX_B, pairs, sizeof pairs}}, *code;
 
 static uint8_t data[N], page[QMTD_MAX_PAGE_LEN], result[N], syndrome[K], difference[N];
-static uint8_t margins[QMTD_MARGINS_LEN(N, 1)], counts[QMTD_COUNTS_LEN];
+static uint8_t margins[QMTD_MARGINS_LEN(N, 1)], counts[QMTD_COUNTS_LEN], changes[QMTD_CHANGES_LEN];
 static uint8_t stack[STACK] __attribute__((aligned(16)));
 static uint32_t number;
 
@@ -48,6 +48,17 @@ static void decode(void)
 {
     number = qmtd_decode(CODE, page, N + code->k, thresholds, sizeof thresholds, result, N, syndrome, code->k,
                          difference, N, margins, sizeof margins, counts, sizeof counts);
+}
+
+static void open_page(void)
+{
+    number = qmtd_open(CODE, page, N + code->k, result, N, syndrome, code->k, difference, N);
+}
+
+/* On what was opened. */
+static void pass(void)
+{
+    number = qmtd_pass(CODE, 0, result, N, syndrome, code->k, difference, N, changes, sizeof changes);
 }
 
 static void idle(void)
@@ -101,7 +112,8 @@ int main(void)
     static const struct {
         const char *name;
         void (*call)(void);
-    } calls[] = {{"check_table", check_table}, {"encode", encode}, {"syndrome", work_out_syndrome}, {"decode", decode}};
+    } calls[] = {{"check_table", check_table}, {"encode", encode}, {"syndrome", work_out_syndrome},
+                 {"decode", decode}, {"open", open_page}, {"pass", pass}};
     int wrong = 0;
     size_t around = used_by(idle);
     for (size_t i = 0; i < N; i++)

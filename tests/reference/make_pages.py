@@ -15,7 +15,7 @@ from pathlib import Path
 import reference as ref
 import screen
 from codes import LINES, SINGER, WIDEST, Random, greedy, greedy_runs, positions_for, runs_for, singer
-from records import CHECK_TABLE, DECODE, ENCODE, SYNDROME, Pages
+from records import CHECK_TABLE, DECODE, ENCODE, OPEN, PASS, SYNDROME, Pages
 
 ROOT = Path(__file__).resolve().parent.parent.parent
 CRATE = ROOT / "crates" / "reference"
@@ -723,13 +723,16 @@ def branches_lengths(pages, random):
         pages.decode(5, 20, 7, table, page, [0], expect=7)
 
 
-# The order in which refusals are tested.
+# The refusals of each call, in the order in which they are tested.
 ORDER = (1, 2, 10, 3, 4, 5, 6, 7, 8, 9)
+REFUSALS = {CHECK_TABLE: ORDER[:6], ENCODE: ORDER[:8], SYNDROME: ORDER[:8], DECODE: ORDER, OPEN: ORDER[:8],
+            PASS: ORDER[:8] + (9,)}
 
 
 def spoiled_branches(call, met):
     """The tests and the arguments of a call with two branches, or nine, that meets these refusals. k is 40 and the runs
-    are 0, d for d from 1 up. With refusal 2 k is 4,097 and the lengths are still those of 40, so that 6 is met too."""
+    are 0, d for d from 1 up. With refusal 2 k is 4,097 and the lengths are still those of 40, so that 6 is met too. In a
+    pass 6 and 7 are met by D."""
     q = 2 if 1 in met else 5
     b = 9 if 10 in met else 2
     runs = [[0, d] for d in range(1, b + 1)]
@@ -740,7 +743,7 @@ def spoiled_branches(call, met):
     if 4 in met:
         runs[-1] = runs[-1][:-2] + runs[-1][:-3:-1]
     k, lengths_k = (4097 if 2 in met else 40), 40
-    length = (b if call == ENCODE else b + 1) * lengths_k - (1 if 6 in met else 0)
+    length = (b if call in (ENCODE, PASS) else b + 1) * lengths_k - (1 if 6 in met else 0)
     symbols = [0] * length
     if 7 in met:
         symbols[-7] = 5
@@ -755,24 +758,33 @@ def spoiled_branches(call, met):
         return ref.encode_tests(*code, symbols, page_len), (*code, symbols), {"page_len": page_len}
     if call == SYNDROME:
         return ref.syndrome_tests(*code, symbols, lengths_k), (*code, symbols), {"syndrome_len": lengths_k}
+    if call == OPEN:
+        lengths = ref.buffer_lengths(lengths_k, b)
+        return ref.open_tests(*code, symbols, *lengths), (*code, symbols), {"lengths": lengths}
+    if call == PASS:
+        arguments = (*code, 33 if 9 in met else 0, [0] * (b * lengths_k), [0] * lengths_k, symbols)
+        return ref.pass_tests(*arguments, 4), arguments, {}
     lengths = ref.decode_lengths(lengths_k, b)
     return (ref.decode_tests(*code, symbols, thresholds, *lengths), (*code, symbols, thresholds),
             {"lengths": lengths})
 
 
+def refused_in_pairs(call, add):
+    """As the group of refusals in pairs, with 10 in its place."""
+    numbers = REFUSALS[call]
+    for met in list(itertools.combinations(numbers, 2)) + [numbers[a:] for a in range(len(numbers) - 2)]:
+        tests, arguments, lengths = spoiled_branches(call, met)
+        applies = [number for number, test in tests if test()]
+        assert set(met) <= set(applies) and applies[0] == met[0]
+        add(*arguments, **lengths, expect=met[0])
+
+
 @group("branches, refusals in pairs and all together")
 def branches_pairs(pages, random):
-    """As the group of refusals in pairs, with 10 in its place."""
-    adders = {CHECK_TABLE: (5, pages.check_table), ENCODE: (7, pages.encode),
-              SYNDROME: (7, pages.syndrome), DECODE: (9, pages.decode)}
-    for call, (last, add) in adders.items():
-        numbers = ORDER[:ORDER.index(last) + 1]
-        sets = list(itertools.combinations(numbers, 2)) + [numbers[a:] for a in range(len(numbers) - 2)]
-        for met in sets:
-            tests, arguments, lengths = spoiled_branches(call, met)
-            applies = [number for number, test in tests if test()]
-            assert set(met) <= set(applies) and applies[0] == met[0]
-            add(*arguments, **lengths, expect=met[0])
+    refused_in_pairs(CHECK_TABLE, pages.check_table)
+    refused_in_pairs(ENCODE, pages.encode)
+    refused_in_pairs(SYNDROME, pages.syndrome)
+    refused_in_pairs(DECODE, pages.decode)
 
 
 def branch_places(k, b, count, random):
@@ -1148,6 +1160,292 @@ def branches_schedules(pages, random):
         page = damaged(random, q, page, branch_places(k, b, count, random))
         went_on += goes_on(pages.decode(q, k, b, ref.table_of(*runs), page, thresholds, expect=0))
     assert went_on >= 8
+
+
+# Openings and passes (request N5)
+
+def some_code(random, q, k, b, j):
+    """q, k, b and a table of these numbers, as all calls take them; and its runs."""
+    runs = [positions_for(random, k, j)] if b == 1 else runs_for(random, k, b, j)
+    return (q, k, b, ref.table_of(*runs)), runs
+
+
+@group("openings")
+def openings(pages, random):
+    for q, k, b, j in ((3, 1, 1, 1), (256, 1, 8, 1), (4, 2, 4, 1), (251, 7, 1, 3), (256, 13, 2, 3), (3, 17, 8, 2),
+                       (251, 40, 4, 3), (10, 133, 1, 12), (4, 156, 5, 6), (251, 993, 1, 32), (256, 512, 8, 7),
+                       (3, 4096, 1, 10)):
+        code, _ = some_code(random, q, k, b, j)
+        pages.open_page(*code, random.symbols(q, (b + 1) * k), expect=0)
+    # A code word, and one with a symbol of each branch and a check replaced.
+    for q, k, b, j in ((256, 31, 1, 6), (4, 31, 8, 2)):
+        code, runs = some_code(random, q, k, b, j)
+        data = random.symbols(q, b * k)
+        word = ref.code_word(q, k, runs, data)
+        assert pages.open_page(*code, word, expect=0) == (data, [0] * k, [0] * (b * k))
+        got = pages.open_page(*code, damaged(random, q, word, [r * k + random.below(k) for r in range(b + 1)]), expect=0)
+        assert any(got.syndrome) and not any(got.difference)
+    # The largest and smallest values of a sum less a check.
+    for q in (129, 256):
+        code, _ = some_code(random, q, 57, 1, 8)
+        pages.open_page(*code, [q - 1] * 57 + [0] * 57, expect=0)
+        pages.open_page(*code, [0] * 57 + [q - 1] * 57, expect=0)
+
+
+# What of a pass may have another length: one of the three buffers, or the bytes of the changes.
+RESULT, S, D, CHANGES = range(4)
+
+
+def resized(buffers, at, more):
+    """The buffers, but for one that is lent with so many symbols more, or fewer."""
+    return [(buffer + [0] * more)[:len(buffer) + more] if i == at else buffer for i, buffer in enumerate(buffers)]
+
+
+def passes_in_turn(pages, code, buffers, calls):
+    """Passes, each on what the one before left. A call is a threshold, refused above 32; or a threshold, the place of a
+    buffer and how many symbols more that has than it should, which is refused. Returns what the last one left, and the
+    changes of each, None where it was refused."""
+    made = []
+    for call in calls:
+        threshold, at, more = call if isinstance(call, tuple) else (call, None, 0)
+        got = pages.pass_once(*code, threshold, *resized(buffers, at, more),
+                              changes_len=4 + more if at == CHANGES else 4,
+                              expect=6 if more else 9 if threshold > 32 else 0)
+        buffers = buffers if got is None else got[:3]
+        made.append(None if got is None else got.changes)
+    return buffers, made
+
+
+def opened_passes(pages, random, code, runs, replaced, calls):
+    """Opens a page with so many symbols replaced and makes passes on its buffers. Inside the bound, with the smallest
+    threshold of the passes that are not refused, the data comes back. Returns the changes of each."""
+    q, k, b, _ = code
+    data = random.symbols(q, b * k)
+    page = damaged(random, q, ref.code_word(q, k, runs, data), branch_places(k, b, replaced, random))
+    buffers = pages.open_page(*code, page, expect=0)
+    after, made = passes_in_turn(pages, code, buffers, calls)
+    assert ref.page_of(q, k, runs, *after) == page
+    thresholds = [call for call, changes in zip(calls, made) if changes is not None]
+    if thresholds and 2 * replaced + min(thresholds) <= len(runs[0]):
+        assert after[RESULT] == data
+    return made
+
+
+@group("passes on opened pages")
+def passes_opened(pages, random):
+    """Damage inside the bound, then outside it, with falling, rising and equal thresholds: no pass is skipped."""
+    for q, k, b, j, replaced, thresholds in (
+            (256, 13, 1, 4, 2, [0, 0]), (4, 13, 1, 4, 1, [2]), (251, 31, 1, 6, 3, [4, 1, 0]), (3, 31, 1, 6, 2, [32, 2]),
+            (256, 57, 1, 8, 2, [3, 4]), (3, 13, 2, 3, 1, [1, 0]), (251, 31, 4, 3, 1, [1]), (256, 31, 8, 2, 1, [2, 0])):
+        code, runs = some_code(random, q, k, b, j)
+        opened_passes(pages, random, code, runs, replaced, thresholds)
+    made = []
+    for q, k, b, j, replaced, thresholds in (
+            (3, 13, 1, 4, 6, [2, 0, 0]), (256, 31, 1, 6, 10, [1, 0, 0]), (4, 57, 1, 8, 14, [2, 1, 0, 0]),
+            (251, 57, 1, 8, 19, [3, 0, 3, 0]), (256, 40, 2, 4, 13, [1, 0, 0]), (3, 40, 3, 4, 20, [2, 1, 0, 0]),
+            (4, 17, 8, 2, 8, [1, 0])):
+        code, runs = some_code(random, q, k, b, j)
+        made += opened_passes(pages, random, code, runs, replaced, thresholds)
+    assert sum(changes > 0 for changes in made) >= 12
+    # The passes of a decode, made one by one: its result, S, D and changes.
+    for q, k, b, j, replaced, thresholds in ((256, 31, 1, 6, 9, [4, 4, 2, 0, 0]), (3, 40, 3, 4, 12, [2, 1, 3, 0, 0])):
+        code, runs = some_code(random, q, k, b, j)
+        page = damaged(random, q, ref.code_word(q, k, runs, random.symbols(q, b * k)),
+                       branch_places(k, b, replaced, random))
+        decoded = pages.decode(*code, page, thresholds, expect=0)
+        buffers = pages.open_page(*code, page, expect=0)
+        after, made = passes_in_turn(pages, code, buffers, [thresholds[i] for i in decoded.places])
+        assert after == decoded[:3] and made == decoded.changes_of_pass and sum(made) > 0
+
+
+@group("passes, refused ones between")
+def passes_refused_between(pages, random):
+    """Refused by the threshold or by a length, before, between and after those that are made: the others do what they
+    would do without them."""
+    for q, k, b, j, replaced, calls in (
+            (3, 13, 1, 4, 2, [4294967295, 33, 0]),
+            (256, 13, 1, 4, 2, [3, 33, 2, 4294967295, 0]),
+            (4, 13, 1, 4, 1, [(0, RESULT, -1), 2, (0, RESULT, 1), 2]),
+            (251, 31, 1, 6, 3, [2, (0, S, -1), (0, S, 1), 0]),
+            (256, 31, 1, 6, 2, [(0, D, -1), (2, D, 1), 2, 256]),
+            (3, 31, 1, 6, 10, [1, (0, D, -31), 0, (33, S, -31), 0]),
+            (256, 13, 2, 3, 1, [33, (0, RESULT, -13), 1, (0, D, -13)]),
+            (251, 31, 4, 3, 1, [1, (0, S, 31), 0, 4294967295]),
+            (3, 31, 8, 2, 1, [(0, RESULT, 31), 2147483648, 0])):
+        code, runs = some_code(random, q, k, b, j)
+        opened_passes(pages, random, code, runs, replaced, calls)
+    # The page of case 7 with a refused pass at two places of the list 3, 2: the same pass makes the change.
+    for calls, due in (([33, 3, 2], [None, 0, 1]), ([3, 33, 2], [0, None, 1])):
+        buffers = pages.open_page(256, 13, 1, ref.CODE_A, ref.page_a({0: 7}), expect=0)
+        assert passes_in_turn(pages, (256, 13, 1, ref.CODE_A), buffers, calls)[1] == due
+
+
+def random_buffers(random, q, k, b):
+    """Result, S and D of any content in range, none tied to another."""
+    return [random.symbols(q, length) for length in ref.buffer_lengths(k, b)]
+
+
+def mostly(random, q, length, value):
+    """Symbols of which seven of eight have this value."""
+    return [value if random.below(8) else random.below(q) for _ in range(length)]
+
+
+def any_buffers(random, q, k, b):
+    """The same, but many symbols of S and D agree, so that votes have leads also where q is large."""
+    value = 1 + random.below(q - 1)
+    return random.symbols(q, b * k), mostly(random, q, k, value), mostly(random, q, b * k, value)
+
+
+@group("passes on buffers of any content")
+def passes_any_content(pages, random):
+    """Every J, then thresholds of 0, 1, J and 32 on the same buffers, then passes in turn."""
+    changed = 0
+    for j in range(1, 33):
+        q = (3, 256, 4, 251, 10)[j % 5]
+        k = min(k for k, p in SINGER.items() if p + 1 >= j)
+        code, _ = some_code(random, q, k, 1, j)
+        buffers = any_buffers(random, q, k, 1)
+        changed += pages.pass_once(*code, (0, 1, j // 2, j // 4)[j % 4], *buffers, expect=0).changes > 0
+    assert changed == 32
+    for q, k, b, j in ((3, 7, 1, 1), (251, 13, 1, 4), (256, 31, 8, 2), (4, 13, 2, 3)):
+        code, _ = some_code(random, q, k, b, j)
+        buffers = any_buffers(random, q, k, b)
+        for threshold in (0, 1, j, 32)[j == 1:]:
+            got = pages.pass_once(*code, threshold, *buffers, expect=0)
+            assert (got.changes > 0) == (threshold <= j)
+    for q, k, b, j, buffers_of in ((251, 57, 1, 8, any_buffers), (256, 17, 8, 2, any_buffers),
+                                   (3, 31, 1, 6, random_buffers), (4, 31, 4, 3, random_buffers)):
+        code, _ = some_code(random, q, k, b, j)
+        _, made = passes_in_turn(pages, code, buffers_of(random, q, k, b), [j, j // 2, 0, 0])
+        assert sum(changes > 0 for changes in made) > 1
+
+
+@group("passes, votes")
+def passes_votes(pages, random):
+    """The estimates of symbol 0 of code A are d(0) and S at 0, 1, 4, 6. Each other symbol has one of these checks at most
+    and is left."""
+    def vote(q, estimates, threshold, h0):
+        """Symbol 0 is changed by h0, or left where that is 0."""
+        s = ref.symbols(13, dict(zip((0, 1, 4, 6), estimates[1:])))
+        got = pages.pass_once(q, 13, 1, ref.CODE_A, threshold, random.symbols(q, 13), s,
+                              ref.symbols(13, {0: estimates[0]}), expect=0)
+        assert got.changes == (h0 != 0) and got.difference[0] == (estimates[0] - h0) % q
+
+    for q, estimates, h0, ahead in (
+            (256, (2, 2, 1, 1, 0), 0, 0), (3, (1, 2, 2, 1, 0), 0, 0), (256, (7, 7, 0, 9, 1), 7, 1),
+            (10, (0, 9, 7, 1, 7), 7, 1), (251, (250, 0, 1, 250, 2), 250, 1), (4, (3, 3, 0, 3, 0), 3, 1),
+            (256, (0, 255, 255, 255, 255), 255, 3), (256, (255, 255, 255, 255, 0), 255, 3), (251, (1, 2, 2, 2, 2), 2, 3),
+            (4, (0, 0, 0, 3, 3), 0, 1)):
+        if ahead:
+            vote(q, estimates, ahead - 1, h0)
+        vote(q, estimates, ahead, 0)
+    # All J + 1 estimates of symbol 0, and of no other, agree: a change with a threshold of J, none with J + 1.
+    for q, k, j in ((3, 1, 1), (4, 7, 3), (256, 57, 8), (251, 993, 32)):
+        positions = positions_for(random, k, j)
+        h = 1 + random.below(q - 1)
+        s = ref.symbols(k, {p: h for p in positions})
+        for threshold in (j, j + 1)[:1 if j == 32 else 2]:
+            got = pages.pass_once(q, k, 1, ref.table_of(positions), threshold, random.symbols(q, k), s,
+                                  ref.symbols(k, {0: h}), expect=0)
+            assert got.changes == (threshold == j)
+
+
+@group("passes on clean buffers")
+def passes_clean(pages, random):
+    """S and D all 0: nothing is changed, whatever the result is."""
+    for q, k, b, j, threshold in ((3, 1, 1, 1, 0), (256, 1, 8, 1, 32), (251, 13, 1, 4, 4), (4, 57, 1, 8, 1),
+                                  (3, 31, 8, 2, 0), (251, 31, 4, 3, 0)):
+        code, _ = some_code(random, q, k, b, j)
+        assert pages.pass_once(*code, threshold, random.symbols(q, b * k), [0] * k, [0] * (b * k), expect=0).changes == 0
+    code, runs = some_code(random, 256, 13, 2, 3)
+    assert opened_passes(pages, random, code, runs, 0, [0, 33, (0, D, 1), 0]) == [0, None, None, 0]
+
+
+@group("passes, 4,096 data symbols and many changes")
+def passes_many(pages, random):
+    """With J = 1 and D = S symbol by symbol the two estimates agree, so that every symbol is changed: the number of
+    changes takes two bytes."""
+    for q, k in ((3, 255), (256, 256), (251, 300), (256, 4096)):
+        s = [1 + random.below(q - 1) for _ in range(k)]
+        got = pages.pass_once(q, k, 1, ref.table_of([0]), 1, random.symbols(q, k), s, s, expect=0)
+        assert got.changes == k and not any(got.syndrome + got.difference)
+    for q, k, b, j, threshold in ((251, 2048, 2, 20, 0), (4, 512, 8, 7, 1), (256, 1024, 4, 8, 32)):
+        code, _ = some_code(random, q, k, b, j)
+        got = pages.pass_once(*code, threshold, *any_buffers(random, q, k, b), expect=0)
+        assert (got.changes > 0) == (threshold < 32)
+
+
+@group("openings and passes, refusals one by one")
+def open_pass_one_by_one(pages, random):
+    """Each refusal of both calls, at the edges of what it tests. Numbers that would pass if only their low bits were
+    looked at are among them."""
+    a, two, lent_for = ref.CODE_A, ref.table_of([0, 1, 4], [0, 2, 7]), (13, 1)
+    for q, number in ((2, 1), (3, 0), (256, 0), (257, 1), (65541, 1)):
+        pages.open_and_pass(q, 13, 1, a, expect=number)
+    for k in (0, 4097, 65549):
+        pages.open_and_pass(5, k, 1, a, lent_for, expect=2)
+    for k, b in ((13, 0), (13, 9), (13, 257), (16, 2 ** 28 + 1), (2049, 2), (513, 8)):
+        pages.open_and_pass(5, k, b, a, lent_for, expect=10)
+    for b, table in ((1, b""), (1, ref.table_of(range(33))), (2, ref.table_of([0, 1, 4]))):
+        pages.open_and_pass(5, 13, b, table, expect=3)
+    for b, table in ((1, ref.table_of([0, 1, 4, 13])), (2, ref.table_of([0, 1], [2, 0]))):
+        pages.open_and_pass(5, 13, b, table, expect=4)
+    for k, b, table in ((12, 1, a), (13, 2, ref.table_of([0, 1], [0, 1]))):
+        pages.open_and_pass(5, k, b, table, expect=5)
+
+    # 6: each buffer one symbol off, and one branch.
+    page, right = [0] * 39, ref.buffer_lengths(13, 2)
+    for more in (-1, 1, -13, 13):
+        pages.open_page(5, 13, 2, two, (page + [0] * 13)[:39 + more], expect=6)
+        for at, length in enumerate(right):
+            pages.open_page(5, 13, 2, two, page, right[:at] + (length + more,) + right[at + 1:], expect=6)
+            pages.pass_once(5, 13, 2, two, 0, *resized([[0] * n for n in right], at, more), expect=6)
+
+    # 7: the first and the last symbol of the page, and of each of the three buffers. With q - 1 there it is none.
+    for q, symbol, number in ((251, 251, 7), (251, 250, 0), (256, 255, 0)):
+        for place in (0, 38):
+            pages.open_page(q, 13, 2, two, ref.symbols(39, {place: symbol}), expect=number)
+        for at, length in enumerate(right):
+            for place in (0, length - 1):
+                buffers = [[0] * n for n in right]
+                buffers[at][place] = symbol
+                pages.pass_once(q, 13, 2, two, 32, *buffers, expect=number)
+
+    # 9: the threshold is a number of 32 bits.
+    clean = [0] * 13, [0] * 13, [0] * 13
+    for threshold in (32, 33, 255, 256, 288, 65536, 2 ** 24, 2 ** 31, 2 ** 32 - 1):
+        pages.pass_once(5, 13, 1, a, threshold, *clean, expect=0 if threshold == 32 else 9)
+
+
+@group("openings and passes, refusals in pairs")
+def open_pass_pairs(pages, random):
+    refused_in_pairs(OPEN, pages.open_page)
+    refused_in_pairs(PASS, pages.pass_once)
+
+
+@group("openings and passes in C alone", c_only=True)
+def open_pass_c_only(pages, random):
+    """Tables of an odd length, and other lengths of the changes than 4."""
+    odd = ref.CODE_A + b"\0"
+    for length in (1, 7, 9):
+        pages.open_and_pass(5, 13, 1, odd[:length], expect=3)
+    pages.open_and_pass(2, 13, 1, odd, expect=1)
+    pages.open_and_pass(5, 13, 9, odd, (13, 1), expect=10)
+
+    # Passes in turn, refused by the length of the changes before, between and after those that are made.
+    for q, k, b, j, replaced, calls in (
+            (256, 13, 1, 4, 2, [(0, CHANGES, -1), 0, (0, CHANGES, -4)]),
+            (251, 31, 1, 6, 9, [2, (0, CHANGES, -4), 1, (0, CHANGES, 1), 0]),
+            (4, 13, 2, 3, 1, [33, (1, CHANGES, -1), 1])):
+        code, runs = some_code(random, q, k, b, j)
+        opened_passes(pages, random, code, runs, replaced, calls)
+    # Each length on buffers that a pass would change; then with something else amiss, before 6 or after it.
+    code, _ = some_code(random, 5, 13, 1, 4)
+    for length in (0, 1, 3, 5, 8, 16):
+        pages.pass_once(*code, 0, *any_buffers(random, 5, 13, 1), changes_len=length, expect=6)
+    for met in [(number,) for number in REFUSALS[PASS]] + [(7, 9)]:
+        _, arguments, _ = spoiled_branches(PASS, met)
+        pages.pass_once(*arguments, changes_len=3, expect=6 if met[0] in (7, 9) else met[0])
 
 
 def make():

@@ -6,7 +6,7 @@ import struct
 import reference as ref
 
 # The number of a call in the file; 0 opens a group.
-OPEN_GROUP, CHECK_TABLE, ENCODE, SYNDROME, DECODE = range(5)
+OPEN_GROUP, CHECK_TABLE, ENCODE, SYNDROME, DECODE, OPEN, PASS = range(7)
 
 # What a record gives of a string's content.
 BEFORE, AFTER = 1, 2
@@ -28,6 +28,15 @@ def lent(length, number, written):
     written = bytes(written)
     assert len(written) == length
     return struct.pack("<2I", length, AFTER) + written
+
+
+def held(before, after):
+    """Memory that the call reads and may alter: what it holds before, and what after where that is something else."""
+    before, after = bytes(before), bytes(after)
+    if after == before:
+        return read(before)
+    assert len(after) == len(before)
+    return struct.pack("<2I", len(before), BEFORE | AFTER) + before + after
 
 
 class Pages:
@@ -94,9 +103,32 @@ class Pages:
         self._call(DECODE, number, expect, [q, k, b], table, [read(page), read(thresholds), *answers])
         return got
 
+    def open_page(self, q, k, b, table, page, lengths=None, expect=None):
+        """`lengths` are those of result, syndrome and difference. Returns these three, None where it is refused."""
+        lengths = ref.buffer_lengths(k, b) if lengths is None else lengths
+        number, got = ref.open_page(q, k, b, table, page, *lengths)
+        answers = [lent(length, number, content) for length, content in zip(lengths, got or [None] * 3)]
+        self._call(OPEN, number, expect, [q, k, b], table, [read(page), *answers])
+        return got
+
+    def pass_once(self, q, k, b, table, threshold, result, s, d, changes_len=4, expect=None):
+        """Returns result, syndrome and difference as the pass leaves them, and its changes; None where it is refused."""
+        number, got = ref.pass_once(q, k, b, table, threshold, result, s, d, changes_len)
+        buffers = [held(before, after) for before, after in zip((result, s, d), got or (result, s, d))]
+        changes = lent(changes_len, number, struct.pack("<I", got.changes) if got else None)
+        self._call(PASS, number, expect, [q, k, b, threshold], table, [*buffers, changes])
+        return got
+
     def every_call(self, q, k, b, table, expect=None):
-        """All four calls, on symbols that are all 0."""
+        """The first four calls, on symbols that are all 0."""
         self.check_table(q, k, b, table, expect)
         self.encode(q, k, b, table, [0] * (b * k), expect=expect)
         self.syndrome(q, k, b, table, [0] * ((b + 1) * k), expect=expect)
         self.decode(q, k, b, table, [0] * ((b + 1) * k), [0], expect=expect)
+
+    def open_and_pass(self, q, k, b, table, lent_for=None, expect=None):
+        """The other two, on symbols that are all 0, in buffers for this k and b or for another pair."""
+        other_k, other_b = lent_for or (k, b)
+        lengths = ref.buffer_lengths(other_k, other_b)
+        self.open_page(q, k, b, table, [0] * ((other_b + 1) * other_k), lengths, expect)
+        self.pass_once(q, k, b, table, 0, *([0] * length for length in lengths), expect=expect)

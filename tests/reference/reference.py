@@ -1,9 +1,10 @@
-"""The page code and its decoder, as documents 01 and 02 (requests N1, N2 and N4) state them: clear rather than fast.
+"""The page code and its decoder, as documents 01 and 02 (requests N1, N2, N4 and N5) state them: clear rather than fast.
 
-Shares no code and no tables with the library. `check_table`, `encode`, `syndrome` and `decode` take what the C calls
-take, with the lengths of lent buffers in place of the buffers. They return the number and, at 0, what was written.
-Elsewhere a code is q, k and its runs, a list of positions for each branch. Run as a program it tries itself on the
-worked cases of document 01, on the codes of N2 and on the threshold lists of N4.
+Shares no code and no tables with the library. `check_table`, `encode`, `syndrome`, `decode`, `open_page` and `pass_once`
+take what the C calls take, with the lengths of buffers lent for an answer in place of the buffers. They return the number
+and, at 0, what was written. Elsewhere a code is q, k and its runs, a list of positions for each branch. Run as a program
+it tries itself on the worked cases of document 01, on the codes of N2, on the threshold lists of N4 and on the passes of
+N5.
 """
 
 import functools
@@ -16,6 +17,8 @@ ALL_PAIRS = 32
 Counts = namedtuple("Counts", "passes changes start end")
 # `places` are the places, in the list of thresholds, of the passes that were run.
 Decoded = namedtuple("Decoded", "result syndrome difference margins counts places changes_of_pass")
+Opened = namedtuple("Opened", "result syndrome difference")
+Passed = namedtuple("Passed", "result syndrome difference changes")
 
 
 # The code
@@ -63,6 +66,17 @@ def syndrome_of(q, k, runs, page):
 def distance(page, other):
     """The number of places where two pages differ."""
     return sum(a != b for a, b in zip(page, other))
+
+
+def nonzero(symbols):
+    return sum(x != 0 for x in symbols)
+
+
+def page_of(q, k, runs, result, s, d):
+    """The page whose data is result - D and whose checks are those of the result - S. For the buffers of a page that was
+    opened, and at every moment of passes on them, it is that page; buffers of any content in range have one."""
+    checks = code_word(q, k, runs, result)[len(result):]
+    return [(a - c) % q for a, c in zip(result + checks, d + s)]
 
 
 def shared(k, runs, j, l):
@@ -154,9 +168,14 @@ def syndrome_tests(q, k, b, table, page, syndrome_len):
     ]
 
 
+def buffer_lengths(k, b):
+    """The lengths of result, syndrome and difference that fit."""
+    return b * k, k, b * k
+
+
 def decode_lengths(k, b):
-    """The lengths of result, syndrome, difference and margins that fit; a margin has 4 bytes."""
-    return b * k, k, b * k, 4 * b * k
+    """Those, and that of the margins; a margin has 4 bytes."""
+    return *buffer_lengths(k, b), 4 * b * k
 
 
 def decode_tests(q, k, b, table, page, thresholds, *lengths):
@@ -165,6 +184,21 @@ def decode_tests(q, k, b, table, page, thresholds, *lengths):
         (7, lambda: bad_symbol(q, page)),
         (8, lambda: not 1 <= len(thresholds) <= 64),
         (9, lambda: any(t > 32 for t in thresholds)),
+    ]
+
+
+def open_tests(q, k, b, table, page, *lengths):
+    return table_tests(q, k, b, table) + [
+        (6, lambda: len(page) != (b + 1) * k or lengths != buffer_lengths(k, b)),
+        (7, lambda: bad_symbol(q, page)),
+    ]
+
+
+def pass_tests(q, k, b, table, threshold, result, s, d, changes_len):
+    return table_tests(q, k, b, table) + [
+        (6, lambda: (len(result), len(s), len(d)) != buffer_lengths(k, b) or changes_len != 4),
+        (7, lambda: any(bad_symbol(q, buffer) for buffer in (result, s, d))),
+        (9, lambda: threshold > 32),
     ]
 
 
@@ -204,25 +238,36 @@ def next_place(thresholds, place, changes):
     return None
 
 
+def opened(q, k, runs, page):
+    """Result, S and D of a received page, before any visit."""
+    n = len(runs) * k
+    return list(page[:n]), syndrome_of(q, k, runs, page), [0] * n
+
+
+def one_pass(q, k, runs, threshold, result, s, d):
+    """A visit to every data symbol in order. Alters the three lists and returns the number of changes."""
+    changes = 0
+    for j in range(len(runs) * k):
+        before = estimates(k, runs, s, d, j)
+        h0, ahead = lead(before)
+        if ahead > threshold and h0 != 0:
+            result[j] = (result[j] - h0) % q
+            d[j] = (d[j] - h0) % q
+            for i in checks_of(k, runs, j):
+                s[i] = (s[i] - h0) % q
+            changes += 1
+            # What N5 says of every change: the estimates are all that it altered of S and D.
+            assert nonzero(before) - nonzero(estimates(k, runs, s, d, j)) > threshold
+    return changes
+
+
 def run(q, k, runs, page, thresholds):
     """All the passes. Returns result, S, D, the places of the passes run and the number of changes of each."""
-    n = len(runs) * k
-    result = list(page[:n])
-    s = syndrome_of(q, k, runs, page)
-    d = [0] * n
+    result, s, d = opened(q, k, runs, page)
     places, changes_of_pass = [], []
     place = 0
     while place is not None:
-        changes = 0
-        for j in range(n):
-            checks = checks_of(k, runs, j)
-            h0, ahead = lead(estimates(k, runs, s, d, j))
-            if ahead > thresholds[place] and h0 != 0:
-                result[j] = (result[j] - h0) % q
-                d[j] = (d[j] - h0) % q
-                for i in checks:
-                    s[i] = (s[i] - h0) % q
-                changes += 1
+        changes = one_pass(q, k, runs, thresholds[place], result, s, d)
         places.append(place)
         changes_of_pass.append(changes)
         place = next_place(thresholds, place, changes)
@@ -261,19 +306,17 @@ def decode(q, k, b, table, page, thresholds, *lengths):
         return number, None
     runs = runs_of(b, table)
     page = list(page)
-    data, received = page[:b * k], page[b * k:]
     result, s, d, places, changes_of_pass = run(q, k, runs, page, thresholds)
     margins = [margin(estimates(k, runs, s, d, j)) for j in range(b * k)]
     counts = Counts(
         passes=len(places),
         changes=sum(changes_of_pass),
-        start=distance(code_word(q, k, runs, data), page),
+        start=distance(code_word(q, k, runs, page[:b * k]), page),
         end=distance(code_word(q, k, runs, result), page))
 
-    # What document 01 says of every decode.
-    assert result == [(a + c) % q for a, c in zip(data, d)]
-    assert s == [(a - c) % q for a, c in zip(code_word(q, k, runs, result)[b * k:], received)]
-    assert counts.end == sum(x != 0 for x in s + d)
+    # What document 01 says of every decode: result = received data + D, S = the code word's checks - the received checks.
+    assert page_of(q, k, runs, result, s, d) == page
+    assert counts.end == nonzero(s + d)
     assert counts.end + sum(n * (thresholds[i] + 1) for i, n in zip(places, changes_of_pass)) <= counts.start
     assert counts.changes <= 64 * 4096 and counts.start <= 8192
     # What N1 says of every margin, and where it is J + 1.
@@ -290,6 +333,36 @@ def decode(q, k, b, table, page, thresholds, *lengths):
     if counts.changes == 0:
         assert places == strict_minima(thresholds)
     return 0, Decoded(result, s, d, margins, counts, places, changes_of_pass)
+
+
+def open_page(q, k, b, table, page, *lengths):
+    """`lengths` are those of result, syndrome and difference."""
+    number = first_that_applies(open_tests(q, k, b, table, page, *lengths))
+    if number:
+        return number, None
+    runs = runs_of(b, table)
+    got = Opened(*opened(q, k, runs, page))
+    assert page_of(q, k, runs, *got) == list(page)
+    return 0, got
+
+
+def pass_once(q, k, b, table, threshold, result, s, d, changes_len=4):
+    """Returns what the pass leaves in result, syndrome and difference; those given are left as they are."""
+    number = first_that_applies(pass_tests(q, k, b, table, threshold, result, s, d, changes_len))
+    if number:
+        return number, None
+    runs = runs_of(b, table)
+    before, after = [[list(result), list(s), list(d)] for _ in range(2)]
+    got = Passed(*after, one_pass(q, k, runs, threshold, *after))
+
+    # What N5 says of every pass, whatever the buffers held: the page is the same, the code word of the result differs
+    # from it in as many places as S and D have nonzero symbols, and these fall by more than T with every change.
+    page = page_of(q, k, runs, *before)
+    assert page_of(q, k, runs, *after) == page
+    assert distance(code_word(q, k, runs, got.result), page) == nonzero(got.syndrome + got.difference)
+    assert nonzero(got.syndrome + got.difference) + got.changes * (threshold + 1) <= nonzero(before[1] + before[2])
+    assert (got.changes == 0) == (after == before)
+    return 0, got
 
 
 # The worked cases of document 01
@@ -367,6 +440,7 @@ def self_check():
         assert decode_a(256, page, thresholds)[1].margins == margins
     branches_check()
     schedules_check()
+    passes_check()
 
 
 def branches_check():
@@ -403,6 +477,15 @@ def branches_check():
                 differences_differ(k, code)
 
 
+def pages_a_at_3():
+    """Every page with at most two symbols replaced of the word of code A that is all 0, at q = 3."""
+    pages = [page_a()]
+    for places in itertools.chain(itertools.combinations(range(26), 1), itertools.combinations(range(26), 2)):
+        for values in itertools.product((1, 2), repeat=len(places)):
+            pages.append(symbols(26, dict(zip(places, values))))
+    return pages
+
+
 def schedules_check():
     """The passes that N4 has run: lists worked out by hand, then the recovery bound with the smallest threshold."""
     # Symbol 0 has a lead of 3, as in case 7, until a pass with a smaller threshold changes it; then nothing is changed.
@@ -429,15 +512,11 @@ def schedules_check():
     # Two branches: symbol 25 has a lead of 1 (see above), so that the pass with threshold 1 is idle and the next is not.
     number, got = decode(256, 13, 2, table_of([0, 1], [0, 2]), symbols(39, {25: 250}), [1, 1, 0], *decode_lengths(13, 2))
     assert number == 0 and got[:3] == ([0] * 26, [0] * 13, symbols(26, {25: 6})) and got.counts == (2, 1, 2, 1)
-    # Every page with at most two symbols replaced, of the word that is all 0 at q = 3: with 0 among the thresholds the
-    # data comes back; with a smallest of 1 or 2 where one symbol was replaced, else not always.
-    pages = [page_a()]
-    for places in itertools.chain(itertools.combinations(range(26), 1), itertools.combinations(range(26), 2)):
-        for values in itertools.product((1, 2), repeat=len(places)):
-            pages.append(symbols(26, dict(zip(places, values))))
+    # At most two symbols replaced: with 0 among the thresholds the data comes back; with a smallest of 1 or 2 where one
+    # symbol was replaced, else not always.
     for thresholds in ([4, 0], [2, 5, 0, 1], [3, 3, 1], [4, 2, 32]):
         wrong = 0
-        for page in pages:
+        for page in pages_a_at_3():
             number, got = decode_a(3, page, thresholds)
             right = got.result == [0] * 13
             inside = 2 * distance(page, page_a()) + min(thresholds) <= 4
@@ -446,6 +525,77 @@ def schedules_check():
         assert (wrong == 0) == (0 in thresholds)
 
 
+def passes_in_turn(q, k, b, table, page, thresholds):
+    """Opens a page and makes a pass with each threshold, each on what the one before left; a refused one leaves all.
+    Yields result, S and D after each pass and its number of changes, None where it was refused."""
+    number, buffers = open_page(q, k, b, table, page, *buffer_lengths(k, b))
+    assert number == 0
+    for threshold in thresholds:
+        number, got = pass_once(q, k, b, table, threshold, *buffers)
+        if number == 0:
+            buffers = got[:3]
+        yield (*buffers, got.changes if number == 0 else None)
+
+
+def passes_check():
+    """N5: pages opened and passes worked out by hand; that decode is an opening and the passes of its schedule; the
+    recovery bound of a list of passes, refused ones among them; passes on buffers of every content."""
+    # The page of case 7. A lead of 3 isn't above 3; a refused pass makes no visit; the result is put right by the third.
+    code = 256, 13, 1, CODE_A
+    seven = symbols(13, {0: 7}), symbols(13, {0: 7, 1: 7, 4: 7, 6: 7}), [0] * 13
+    right = [0] * 13, [0] * 13, symbols(13, {0: 249})
+    assert open_page(*code, page_a({0: 7}), 13, 13, 13) == (0, seven)
+    assert list(passes_in_turn(*code, page_a({0: 7}), [3, 33, 2, 2 ** 32 - 1, 0])) == [
+        (*seven, 0), (*seven, None), (*right, 1), (*right, None), (*right, 0)]
+    # Case 9: one pass makes both changes.
+    assert list(passes_in_turn(*code, page_a({0: 7, 1: 3}), [0])) == [
+        ([0] * 13, [0] * 13, symbols(13, {0: 249, 1: 253}), 2)]
+    # Buffers of any content. k = 1: the estimates of the one symbol are d and s, both 2, a lead of 2; then two ties.
+    for threshold, result, s, d, after in ((1, 1, 2, 2, (2, 0, 0, 1)), (2, 1, 2, 2, (1, 2, 2, 0)),
+                                           (0, 0, 1, 2, (0, 1, 2, 0)), (0, 2, 1, 0, (2, 1, 0, 0))):
+        number, got = pass_once(3, 1, 1, table_of([0]), threshold, [result], [s], [d])
+        assert number == 0 and got == ([after[0]], [after[1]], [after[2]], after[3])
+    # Two branches, k = 1: the first symbol takes 2 off its d and the one check; the second then has estimates 2, 0.
+    assert pass_once(3, 1, 2, table_of([0], [0]), 0, [1, 1], [2], [2, 2]) == (0, ([2, 1], [0], [0, 2], 1))
+    # Refusals of a pass that the other calls don't have: the bytes for its changes, the symbols of all three buffers, and
+    # a threshold of 32 bits, in this order.
+    zeros = [0] * 13
+    five = symbols(13, {12: 5})
+    for buffers in ((five, zeros, zeros), (zeros, five, zeros), (zeros, zeros, five)):
+        assert [pass_once(5, 13, 1, CODE_A, 33, *buffers, length)[0] for length in (3, 4, 5)] == [6, 7, 6]
+        assert pass_once(6, 13, 1, CODE_A, 33, *buffers)[0] == 9
+    assert [pass_once(*code, t, zeros, zeros, zeros)[0] for t in (32, 33, 256, 2 ** 32 - 1)] == [0, 9, 9, 9]
+
+    # Where decode returns 0, its result, S, D and changes are those of the passes that it ran, made one by one.
+    for page, thresholds in itertools.chain(
+            itertools.product((page_a(), page_a({0: 7}), page_a({0: 7, 1: 3}), page_a({4: 9}, {2: 1, 3: 1, 12: 5})),
+                              ([3, 2, 0], [0, 0, 0], [2, 4, 5, 1, 0], [32] * 63 + [0])),
+            ((page, [2, 1, 0]) for page in pages_a_at_3()[::7])):
+        number, got = decode(*code, page, thresholds, *decode_lengths(13, 1))
+        *_, last = made = list(passes_in_turn(*code, page, [thresholds[i] for i in got.places]))
+        assert number == 0 and last[:3] == got[:3] and [p[3] for p in made] == got.changes_of_pass
+
+    # After each pass of a list: where at least one was not refused, the bound with the smallest threshold of those.
+    for thresholds in ([33, 4, 2 ** 32 - 1, 2, 0], [1, 33, 0, 32], [32, 2, 33, 1], [33, 33]):
+        for page in pages_a_at_3():
+            replaced, made = distance(page, page_a()), []
+            for threshold, (result, *_, changes) in zip(
+                    thresholds, passes_in_turn(3, 13, 1, CODE_A, page, thresholds)):
+                assert (changes is None) == (threshold > 32)
+                made += [threshold] if changes is not None else []
+                assert made or result == page[:13]
+                assert not made or 2 * replaced + min(made) > 4 or result == [0] * 13
+
+    # Every S and D of k = 3, positions 0, 1 at q = 3. A lead is at most J + 1 = 3, where all estimates agree.
+    most = [0] * 4
+    for *s, d0, d1, d2 in itertools.product(range(3), repeat=6):
+        for threshold in range(4):
+            number, got = pass_once(3, 3, 1, table_of([0, 1]), threshold, [0, 1, 2], s, [d0, d1, d2])
+            assert number == 0
+            most[threshold] = max(most[threshold], got.changes)
+    assert most[0] >= most[1] >= most[2] > most[3] == 0
+
+
 if __name__ == "__main__":
     self_check()
-    print("The worked cases of document 01, the codes of N2 and the threshold lists of N4 pass.")
+    print("The worked cases of document 01, the codes of N2, the threshold lists of N4 and the passes of N5 pass.")

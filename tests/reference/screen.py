@@ -1,11 +1,12 @@
 """What examples/screen.c prints where it prints no colours, by the reference program: the same data, damage and layout,
-but the code word, the decode and the margins are those of reference.py."""
+but the code word, the opening, the passes, the decode and the margins are those of reference.py."""
 
 import reference as ref
 
 Q, K, POSITIONS = 256, 256, [0, 1, 3, 7]
 THRESHOLDS = [1] + [0] * 7
 REPLACED = 80
+IN_LINE, COLUMNS = 32, 16
 AT_EMPTY = [0, 0, 4, 8, 16, 24, 32, 40, 40, 40, 36, 32, 24, 16, 8, 0]
 
 FIRM, DOUBTFUL, WEAK = range(3)
@@ -40,6 +41,36 @@ def damaged(page):
     return page
 
 
+def marks(symbols):
+    """A line's symbols, marked where they are not 0."""
+    text = "".join("#" if symbol else "." for symbol in symbols)
+    return "".join(" " + text[i:i + COLUMNS] for i in range(0, len(text), COLUMNS))
+
+
+def view(what, changed, s, d):
+    """The difference and the syndrome; where nothing was changed their counts alone."""
+    lines = [f"{what}: {ref.nonzero(d)} data symbols differ, {ref.nonzero(s)} checks are not 0"]
+    for at in range(0, K, IN_LINE) if changed else ():
+        lines.append(f"{at:5} {marks(d[at:at + IN_LINE])}   {marks(s[at:at + IN_LINE])}")
+    return lines + [""]
+
+
+def passes(page, decoded):
+    """A view of the opened page and one after each pass of the decode, made one by one."""
+    code = Q, K, 1, ref.table_of(POSITIONS)
+    number, buffers = ref.open_page(*code, page, *ref.buffer_lengths(K, 1))
+    assert number == 0
+    lines = [f"The page after each pass, {IN_LINE} data symbols and {IN_LINE} checks in a line: # on the left is a "
+             "data symbol that", "differs from the one received, # on the right a check that is not 0.", ""]
+    lines += view("Opened", True, *buffers[1:])
+    for n, place in enumerate(decoded.places, start=1):
+        number, (*buffers, changes) = ref.pass_once(*code, THRESHOLDS[place], *buffers)
+        assert number == 0
+        lines += view(f"Pass {n}, threshold {THRESHOLDS[place]}, changes {changes}", changes, *buffers[1:])
+    assert tuple(buffers) == decoded[:3]
+    return lines
+
+
 def content():
     """The text, as bytes."""
     sent = [AT_EMPTY[j // 16] * (16 - j % 16) // 16 for j in range(K)]
@@ -48,7 +79,8 @@ def content():
     assert number == 0
     stands = [standing(margin) for margin in got.margins]
 
-    lines = ["Allowed current in ampere, a row for each temperature, charge 0/16 to 15/16:"]
+    lines = passes(page, got)
+    lines.append("Allowed current in ampere, a row for each temperature, charge 0/16 to 15/16:")
     for row in range(16):
         symbols = range(16 * row, 16 * row + 16)
         lines.append(f"{5 * row - 20:4} C " + "".join(f"{got.result[j]:3}{SHOWN[stands[j]][0]}" for j in symbols))

@@ -4,7 +4,8 @@ ghost use mathlib.Core.Path.{_≡_};
 ghost use mathlib.Core.Bool.{_&&_};
 ghost use Prim.Native.Nat.{_+_, _*_};
 ghost use lib.Dec.{eqb};
-ghost use Rattle.model.specs.Calls.{firstThatApplies, pageTests, thresholdTests, decodeAnswer};
+ghost use Rattle.model.specs.Decoder.{stateBy};
+ghost use Rattle.model.specs.Calls.{firstThatApplies, pageTests, thresholdTests, decodeAnswer, passAnswer};
 ghost use Rattle.params.specs.Codes.{codeBy};
 
 // Two lengths are as a call needs them.
@@ -27,8 +28,28 @@ pub fn bytes_fit(margins: usize, n: usize, counts: usize) -> bool
     two_fit(margins / 4, n, counts, 16)
 }
 
-// The lengths of the page and of the three lent buffers are as decode needs them, with n data symbols and k checks,
-// and so are the buffers that only one form of the call lends.
+// The lengths of the result, S and D are as a call needs them, with n data symbols and k checks, and so are the buffers that only one
+// form of the call lends.
+pub fn state_fits(
+    others: bool,
+    n: usize,
+    k: usize,
+    result: usize,
+    syndrome: usize,
+    difference: usize,
+) -> bool
+    ensures { λ r. ⌜ r ≡ (others && (eqb result n && (eqb syndrome k && eqb difference n))) ⌝ }
+{
+    if !others {
+        return false;
+    }
+    if result != n {
+        return false;
+    }
+    two_fit(syndrome, k, difference, n)
+}
+
+// The length of the page too is as decode and open need it.
 pub fn decode_fits(
     others: bool,
     n: usize,
@@ -40,19 +61,13 @@ pub fn decode_fits(
 ) -> bool
     ensures { λ r. ⌜ r ≡ (others && (eqb page (n + k) && (eqb result n && (eqb syndrome k && eqb difference n)))) ⌝ }
 {
-    if !others {
-        return false;
-    }
     if page < k {
         return false;
     }
     if page - k != n {
         return false;
     }
-    if result != n {
-        return false;
-    }
-    two_fit(syndrome, k, difference, n)
+    state_fits(others, n, k, result, syndrome, difference)
 }
 
 // Tests 1 to 7 and 10, of a call whose lent buffers fit or not and whose input is read: the number of the first that applies, or 0.
@@ -100,4 +115,30 @@ pub fn decode_answer(
         return number;
     }
     threshold_answer(thresholds)
+}
+
+// The tests of a pass: 1 to 7 and 10, where the input is the result, S and D, and 9 of its threshold.
+pub fn pass_answer(
+    code: Params,
+    positions: &[u16],
+    fits: bool,
+    threshold: u32,
+    result: &[u8],
+    syndrome: &[u8],
+    difference: &[u8],
+) -> u32
+    ensures { λ r. ⌜ r ≡ passAnswer (codeBy code (now (positions .entry))) fits threshold
+        (stateBy (now (result .entry)) (now (syndrome .entry)) (now (difference .entry))) ⌝ }
+{
+    let number = page_answer(code, positions, fits, result);
+    if number != 0 {
+        return number;
+    }
+    if !slices::all_below(code.q, syndrome) {
+        return 7;
+    }
+    if !slices::all_below(code.q, difference) {
+        return 7;
+    }
+    if 32 < threshold { 9 } else { 0 }
 }

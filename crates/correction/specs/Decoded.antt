@@ -5,7 +5,7 @@ use Prim.Native.Nat.{ℕ, _+_, _≤_}
 use native.Mathlib.Omega.{arith}
 use lib.ListN.{length}
 use Rattle.model.specs.Code.{Code, dataCount, checksOf}
-use Rattle.model.specs.Decoder.{State, changeCount, passes, none, thresholdsRun, dataSymbols, opened, passesOf, run, distanceTo, Counts, decodedState, decodedCounts}
+use Rattle.model.specs.Decoder.{State, changeCount, passes, none, thresholdsRun, dataSymbols, opened, passesOf, run, distanceTo, Counts, decodedState, decodedCounts, stateWeight}
 use Rattle.model.specs.Symbols.{weight}
 use Rattle.theory.specs.Answers.{Opens}
 use Rattle.theory.specs.Codes.{code-incidence}
@@ -14,7 +14,6 @@ use Rattle.theory.specs.Decoding.{code-opened-sized, code-distance, code-idle, 
 use Rattle.theory.specs.Falling.{InRange, after-sized}
 use Rattle.theory.specs.Runs.{range-passes, symbols-range}
 use Rattle.theory.specs.Schedule.{minima}
-use Rattle.theory.specs.Steps.{stateWeight}
 use Rattle.passes.specs.Runs.{ran, passesFrom, runOf}
 use Rattle.visits.specs.Progress.{Progress, Ready}
 use Rattle.tally.specs.declared.Tally.{Tally}

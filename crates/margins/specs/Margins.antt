@@ -15,7 +15,7 @@ use mir.Val.{toZ, ofZ, SFits}
 use mir.ValLaws.{toZ-ofZ}
 use borrow.Author.Tests.{lt-ltb, le-ltb}
 use Rattle.model.specs.Code.{Code, dataCount, checksEach, checksBy, checksOf}
-use Rattle.model.specs.Decoder.{State, stateBy, estimates, dataSymbols, marginsOf}
+use Rattle.model.specs.Decoder.{State, stateBy, estimates, dataSymbols, marginsOf, stateWeight}
 use Rattle.model.specs.Limits.{TableLimits}
 use Rattle.model.specs.Symbols.{count, weight, tabulate, symbolsAt}
 use Rattle.model.specs.Vote.{otherCount, margin}
@@ -24,7 +24,6 @@ use Rattle.theory.specs.Counting.{same-yes, differ-no, differ-yes, All, length-
 use Rattle.theory.specs.Integers.{whole}
 use Rattle.theory.specs.Margins.{zeros-others, margin-top, margins-snoc}
 use Rattle.theory.specs.Runs.{symbols-range}
-use Rattle.theory.specs.Steps.{stateWeight}
 use Rattle.theory.specs.Voting.{other-max}
 use Rattle.checks.specs.Checks.{AtChecks, estimatesBy}
 use Rattle.checks.specs.Places.{AtTable, Found, runAt}

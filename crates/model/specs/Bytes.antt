@@ -1,4 +1,4 @@
--- What the C calls read and write as bytes, low byte first: the positions of a table, the margins and the counts of a decode.
+-- What the C calls read and write as bytes, low byte first: the positions of a table, the margins and the counts of a decode, the changes of a pass.
 use mathlib.Core.Bool.{_&&_}
 use mathlib.Core.List.{List, [], _∷_, _++_}
 use Prim.Native.Nat.{ℕ, _+_, _-_, _*_, _/_, _%_}
@@ -8,7 +8,7 @@ use lib.ListN.{length, getD}
 use Rattle.model.specs.Symbols.{choose, tabulate}
 use Rattle.model.specs.Code.{Code, dataCount}
 use Rattle.model.specs.Decoder.{State, Counts, decodedState, decodedCounts, marginsOf}
-use Rattle.model.specs.Calls.{Outcome, outcome, Decoded, decodeFits, decodeAnswer}
+use Rattle.model.specs.Calls.{Outcome, outcome, Decoded, Passed, stateFits, decodeFits, decodeAnswer, passAnswer, passedState, passedChanges}
 
 -- the two-byte number i of a byte string
 abbrev pub positionAt : List ℕ → ℕ → ℕ
@@ -44,3 +44,10 @@ cDecodeOutcome c page thresholds lent margins counts =
     outcome (decodeAnswer c ((eqb (length margins) (4 * dataCount c) && eqb (length counts) 16) && decodeFits c page lent) page thresholds)
     (record { state = st; margins = marginBytes (marginsOf c st); counts = bytesOf (decodedCounts c thresholds page) })
     (record { state = lent; margins = margins; counts = counts })
+
+-- the C form of a pass writes its changes into 4 lent bytes (N5)
+unfoldable pub cPassOutcome : Code → ℕ → State → List ℕ → Outcome (Passed (List ℕ))
+cPassOutcome c threshold lent changes =
+    outcome (passAnswer c (eqb (length changes) 4 && stateFits c lent) threshold lent)
+    (record { state = passedState c threshold lent; changes = wordOf (passedChanges c threshold lent) })
+    (record { state = lent; changes = changes })

@@ -1,13 +1,13 @@
 -- The calls: the number that each returns, and what it leaves in every lent buffer, from any values and any lists.
 use mathlib.Core.Bool.{Bool, true, not, _&&_}
 use mathlib.Core.List.{List, [], _∷_, _++_}
-use Prim.Native.Nat.{ℕ, suc, _*_}
+use Prim.Native.Nat.{ℕ, suc, _+_, _*_}
 use lib.Dec.{eqb, ltb, leb}
 use lib.IntN.{ℤ}
 use lib.ListN.{length}
 use Rattle.model.specs.Symbols.{choose}
-use Rattle.model.specs.Code.{Code, dataCount, checkCount, pageLength, checksEach, branchAt, codeWord, syndrome, everyBelow, selfOrthogonal}
-use Rattle.model.specs.Decoder.{State, Counts, decodedState, decodedCounts, marginsOf}
+use Rattle.model.specs.Code.{Code, dataCount, checkCount, pageLength, checksEach, checksOf, branchAt, codeWord, syndrome, everyBelow, selfOrthogonal}
+use Rattle.model.specs.Decoder.{State, Visit, after, changeCount, pass, passes, dataSymbols, opened, Counts, decodedState, decodedCounts, marginsOf}
 
 -- ---- tests
 
@@ -68,6 +68,10 @@ pageTests c fits input = tableTests c ++ (test 6 (not fits) ∷ test 7 (not (all
 unfoldable pub thresholdTests : List ℕ → List Test
 thresholdTests thresholds = test 8 (not (within 1 64 (length thresholds))) ∷ test 9 (not (allBelow 33 thresholds)) ∷ []
 
+-- 9 of a call with one threshold, which has no 8 (N5)
+unfoldable pub thresholdTest : ℕ → List Test
+thresholdTest threshold = test 9 (not (ltb threshold 33)) ∷ []
+
 -- ---- the lengths that a call needs: "Data, result, D and margins have b times k places, and a page has (b + 1) times k"; S has k
 
 -- encode reads data and lends a page
@@ -101,6 +105,18 @@ syndromeAnswer c page syndromeLen = firstThatApplies (pageTests c (syndromeFits 
 -- decode also reads thresholds
 unfoldable pub decodeAnswer : Code → Bool → List ℕ → List ℕ → ℕ
 decodeAnswer c fits page thresholds = firstThatApplies (pageTests c fits page ++ thresholdTests thresholds)
+
+-- open reads a page and lends the result, S and D: decode's tests without those of thresholds (N5)
+unfoldable pub openAnswer : Code → List ℕ → State → ℕ
+openAnswer c page lent = firstThatApplies (pageTests c (decodeFits c page lent) page)
+
+-- the symbols of the result, S and D
+abbrev pub stateSymbols : State → List ℕ
+stateSymbols st = st .result ++ (st .syndrome ++ st .difference)
+
+-- a pass reads and lends the result, S and D: "A pass gives 7 for any out-of-range symbol in the three buffers, and 9 for its threshold." (N5)
+unfoldable pub passAnswer : Code → Bool → ℕ → State → ℕ
+passAnswer c fits threshold lent = firstThatApplies (pageTests c fits (stateSymbols lent) ++ thresholdTest threshold)
 
 -- ---- what each call leaves
 
@@ -139,3 +155,62 @@ decodeOutcome c page thresholds lent margins =
     outcome (decodeAnswer c (eqb (length margins) (dataCount c) && decodeFits c page lent) page thresholds)
     (record { state = st; margins = marginsOf c st; counts = decodedCounts c thresholds page })
     (record { state = lent; margins = margins; counts = noCounts })
+
+-- "Let one call open a page, filling result, S and D" (N5)
+unfoldable pub openOutcome : Code → List ℕ → State → Outcome State
+openOutcome c page lent = outcome (openAnswer c page lent) (opened c page) lent
+
+-- a pass's three buffers and its changes, as a number or as bytes
+pub record Passed (N : Type 0) : Type 0 where
+  pub state : State
+  pub changes : N
+
+-- "and another run one pass with one threshold on those buffers and hand back its number of changes" (N5): what it leaves in them, and its changes
+abbrev pub passedState : Code → ℕ → State → State
+passedState c threshold st = after (c .q) (checksOf c) (pass (dataSymbols c) threshold) st
+
+abbrev pub passedChanges : Code → ℕ → State → ℕ
+passedChanges c threshold st = changeCount (c .q) (checksOf c) (pass (dataSymbols c) threshold) st
+
+-- `others` says whether the buffers that only one form of the call lends fit; refused, its Rattle form returns no change beside the number
+unfoldable pub passOutcome : Code → Bool → ℕ → State → Outcome (Passed ℕ)
+passOutcome c others threshold lent =
+    outcome (passAnswer c (others && stateFits c lent) threshold lent)
+    (record { state = passedState c threshold lent; changes = passedChanges c threshold lent })
+    (record { state = lent; changes = 0 })
+
+-- ---- lists of passes, each called for itself (N5)
+
+-- a call of a pass: its threshold, and whether all its buffers fit
+pub record PassCall : Type 0 where
+  pub threshold : ℕ
+  pub fits : Bool
+
+-- a call whose buffers fit
+abbrev pub fitting : ℕ → PassCall
+fitting t = record { threshold = t; fits = true }
+
+-- what a call gives on the buffers as it finds them
+abbrev pub called : Code → PassCall → State → Outcome (Passed ℕ)
+called c p st = passOutcome c (p .fits) (p .threshold) st
+
+-- "Each pass gets what the last one left": what a list of calls leaves in the buffers, "refused ones included",
+unfoldable pub afterCalls : Code → List PassCall → State → State
+afterCalls c [] st = st
+afterCalls c (p ∷ ps) st = afterCalls c ps (called c p st .left .state)
+
+-- the changes that they hand back, added,
+unfoldable pub callChanges : Code → List PassCall → State → ℕ
+callChanges c [] st = 0
+callChanges c (p ∷ ps) st = called c p st .left .changes + callChanges c ps (called c p st .left .state)
+
+-- and the thresholds of "the passes of the list that were not refused", which are those whose number is 0
+unfoldable pub notRefused : Code → List PassCall → State → List ℕ
+notRefused c [] st = []
+notRefused c (p ∷ ps) st =
+    let later = notRefused c ps (called c p st .left .state) in
+    choose (eqb (called c p st .number) 0) (p .threshold ∷ later) later
+
+-- "the visits of the list are then the run, and a refused pass makes none"
+abbrev pub callRun : Code → List PassCall → State → List Visit
+callRun c ps st = passes (dataSymbols c) (notRefused c ps st)

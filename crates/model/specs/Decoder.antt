@@ -6,7 +6,7 @@ use Prim.Native.Nat.{ℕ, _+_, _-_}
 use lib.Dec.{eqb, ltb}
 use lib.IntN.{ℤ}
 use lib.ListN.{length, getD, set}
-use Rattle.model.specs.Symbols.{choose, bit, sub, distance, tabulate, symbolsAt, subtractAt}
+use Rattle.model.specs.Symbols.{choose, bit, sub, weight, distance, tabulate, symbolsAt, subtractAt}
 use Rattle.model.specs.Vote.{leader, leadCount, nextCount, margin}
 use Rattle.model.specs.Code.{Code, dataCount, checksOf, codeWord, syndrome, dataOf}
 
@@ -118,6 +118,10 @@ passesOf c thresholds page = thresholdsRun (c .q) (checksOf c) (dataSymbols c) n
 -- "The run of a decode .. is the list of all its visits, those that alter nothing included"
 unfoldable pub run : Code → List ℕ → List ℕ → List Visit
 run c thresholds page = passes (dataSymbols c) (passesOf c thresholds page)
+
+-- the number of nonzero symbols of D and S together
+unfoldable pub stateWeight : State → ℕ
+stateWeight st = weight (st .difference) + weight (st .syndrome)
 
 -- "This distance is defined by that comparison of two pages": the code word of the result against the received page
 unfoldable pub distanceTo : Code → List ℕ → State → ℕ

@@ -1,12 +1,12 @@
--- Demand 3: the falling distance of any list of visits from an opened page, the recovery of the data sent, and both of a decode.
+-- Demand 3: the falling distance of any list of visits from an opened page, the recovery of the data sent, both of a decode, and the first of a pass.
 use mathlib.Core.Path.{_≡_}
 use mathlib.Core.Bool.{true, false}
 use mathlib.Core.List.{List, [], _∷_}
 use Prim.Native.Nat.{ℕ, suc, _+_, _<_, _≤_, min}
 use Rattle.model.specs.Symbols.{choose, distance}
 use Rattle.model.specs.Code.{Code, pageLength, checksEach, checksOf, codeWord, dataOf}
-use Rattle.model.specs.Decoder.{State, Visit, Counts, changes, visit, after, opened, run, distanceTo}
-use Rattle.model.specs.Calls.{encodeAnswer}
+use Rattle.model.specs.Decoder.{State, Visit, Counts, changes, visit, after, pass, dataSymbols, opened, run, stateWeight, distanceTo}
+use Rattle.model.specs.Calls.{encodeAnswer, passedState}
 
 -- ---- the first half
 
@@ -36,6 +36,12 @@ pub record RunFalls (c : Code) (page : List ℕ) (visits : List Visit) : Type 0 
 pub record DecodeFalls (c : Code) (thresholds page : List ℕ) (counts : Counts) : Type 0 where
   pub falls : RunFalls c page (run c thresholds page)
   pub total : counts .end + spent (c .q) (checksOf c) (run c thresholds page) (opened c page) ≤ counts .start
+
+-- of a pass on buffers of any content in range: "each change lowers the nonzero count of S and D together by more than T" (N5), and every other
+-- visit leaves the three buffers
+pub record PassFalls (c : Code) (threshold : ℕ) (st : State) : Type 0 where
+  pub falls : Falls (c .q) (checksOf c) stateWeight (pass (dataSymbols c) threshold) st
+  pub total : stateWeight (passedState c threshold st) + spent (c .q) (checksOf c) (pass (dataSymbols c) threshold) st ≤ stateWeight st
 
 -- ---- the second half
 

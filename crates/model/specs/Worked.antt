@@ -12,7 +12,7 @@ use Rattle.model.specs.Symbols.{sub, same, differ, count, distance, sumO
 use Rattle.model.specs.Code.{Code, codeOf, dataCount, checkCount, pageLength, branchAt, checksBy, checksOf, checkSumBy, checkSymbol, checkSymbols, codeWord, syndrome, shared, everyBelow, selfOrthogonal, differencesFrom, differencesBy, differences, allDifferent}
 use Rattle.model.specs.Vote.{firstOf, leader, leadCount, otherCount, nextCount, Votes, votes, margin}
 use Rattle.model.specs.Decoder.{stateBy, State, Counts, estimates, isChange, change, changes, visit, after, changeCount, pass, passes, allows, thresholdsRun, opened, passesOf, run, distanceTo, decodedState, decodedCounts, marginsOf}
-use Rattle.model.specs.Calls.{firstThatApplies, within, positionsFit, allBelow, sizeTests, tableTests, pageTests, thresholdTests, tableAnswer, encodeAnswer, decodeAnswer, Outcome, outcome, encodeOutcome, Decoded, decodeOutcome}
+use Rattle.model.specs.Calls.{firstThatApplies, within, positionsFit, allBelow, sizeTests, tableTests, pageTests, thresholdTests, thresholdTest, tableAnswer, encodeAnswer, decodeAnswer, openAnswer, passAnswer, Outcome, outcome, encodeOutcome, Decoded, decodeOutcome, openOutcome, Passed, passOutcome, PassCall, fitting, afterCalls, callChanges, notRefused}
 use Rattle.model.specs.Demand.{VisitFalls, WithinBound, smallest, DecodeRecovers}
 
 -- A row: a call's inputs, and what it must give.
@@ -25,6 +25,12 @@ data Row : Type 0 where
   decoded : (c : Code) (thresholds page : List ℕ) (given : Outcome (Decoded (List ℤ) Counts)) → Row
   -- decode's number, from a margin buffer of this length
   tested : (c : Code) (thresholds page : List ℕ) (margins : ℕ) (answer : ℕ) → Row
+  -- open's number and the three buffers
+  opening : (c : Code) (page : List ℕ) (given : Outcome State) → Row
+  -- a pass's number, buffers and changes, on buffers as it finds them; `others` as in `passOutcome`
+  passing : (c : Code) (others : Bool) (threshold : ℕ) (found : State) (given : Outcome (Passed ℕ)) → Row
+  -- what a list of pass calls leaves, their changes, and the thresholds of those not refused
+  called-in-turn : (c : Code) (calls : List PassCall) (found left : State) (changes : ℕ) (made : List ℕ) → Row
   -- the vote over a list of estimates, its margin, and whether it is a change at a threshold
   voted : (es : List ℕ) (threshold : ℕ) (given : Votes) (margin : ℤ) (changed : Bool) → Row
 
@@ -43,7 +49,8 @@ lentState c = stateBy (lent (dataCount c)) (lent (checkCount c)) (lent (dataCoun
 
 -- the row with what the definitions give for its inputs
 computed : Row → Row
-unfolding firstThatApplies within positionsFit allBelow sizeTests tableTests pageTests thresholdTests tableAnswer encodeAnswer decodeAnswer outcome encodeOutcome decodeOutcome
+unfolding firstThatApplies within positionsFit allBelow sizeTests tableTests pageTests thresholdTests thresholdTest tableAnswer encodeAnswer decodeAnswer openAnswer passAnswer
+    outcome encodeOutcome decodeOutcome openOutcome passOutcome afterCalls callChanges notRefused
     branchAt checksBy checksOf checkSumBy checkSymbol checkSymbols codeWord syndrome shared everyBelow selfOrthogonal differencesFrom differencesBy allDifferent
     firstOf leader leadCount otherCount nextCount estimates isChange change changes visit after changeCount pass passes allows thresholdsRun opened passesOf run distanceTo decodedState decodedCounts margin marginsOf
     sub same differ count distance sumOver sumBelow joinBelow tabulate symbolsAt subtractAt times
@@ -52,6 +59,9 @@ computed (encoded c u g) = encoded c u (encodeOutcome c u (lent (pageLength c)))
 computed (decoded c ts page g) =
     decoded c ts page (decodeOutcome c page ts (lentState c) (map pos (lent (dataCount c))))
 computed (tested c ts page m n) = tested c ts page m (decodeOutcome c page ts (lentState c) (map pos (lent m)) .number)
+computed (opening c page g) = opening c page (openOutcome c page (lentState c))
+computed (passing c o t st g) = passing c o t st (passOutcome c o t st)
+computed (called-in-turn c ps st l n m) = called-in-turn c ps st (afterCalls c ps st) (callChanges c ps st) (notRefused c ps st)
 computed (voted es t g m b) = voted es t (votes es) (margin es) (isChange t es)
 
 -- a code of one branch, as document 01 has them
@@ -124,10 +134,21 @@ twice q x h = ap (λ (v : ℕ). x ∷ v ∷ []) (ap (λ (n : ℕ). n % q) (let e
 twoRuns : Code
 twoRuns = codeOf 256 13 2 (0 ∷ 1 ∷ 0 ∷ 2 ∷ [])
 
+-- what a pass gives
+made : ℕ → State → ℕ → Outcome (Passed ℕ)
+made n st changes = record { number = n; left = record { state = st; changes = changes } }
+
+-- the page of case 6, opened, and what a pass with threshold 2 leaves of it
+openedSix : State
+openedSix = stateBy (7 ∷ zeros 12) (7 ∷ 7 ∷ 0 ∷ 0 ∷ 7 ∷ 0 ∷ 7 ∷ zeros 6) (zeros 13)
+
+passedSix : State
+passedSix = stateBy (zeros 13) (zeros 13) (249 ∷ zeros 12)
+
 -- Rows that pin misreadings: case 14 tells a vote by absolute majority from the steps and pins the tie; a page of three checks tells votes
 -- taken from the syndrome as it was at the start of the pass.
 misreadings : List Row
-unfolding codeA twoRuns accepted found vote times tabulate
+unfolding codeA twoRuns accepted found made openedSix passedSix vote times tabulate
 misreadings =
     -- 14
     voted (2 ∷ 2 ∷ 1 ∷ 1 ∷ 0 ∷ []) 0 (vote 1 2 2 1) (negsuc 0) false
@@ -166,6 +187,18 @@ misreadings =
     -- a pass that changes something is followed by the next, whatever its threshold: on the page of case 6 the first 3 is idle, 2 changes
     -- symbol 0, and 3 is run again
     ∷ decoded codeA (3 ∷ 2 ∷ 3 ∷ []) (7 ∷ zeros 25) (found (zeros 13) (zeros 13) (249 ∷ zeros 12) (map pos (3 ∷ times 12 5)) 3 1 4 1)
+    -- N5, on the page of case 6: open fills the three buffers; then a pass with 3 is idle, and one with 2 changes symbol 0
+    ∷ opening codeA (7 ∷ zeros 25) (record { number = 0; left = openedSix })
+    ∷ passing codeA true 3 openedSix (made 0 openedSix 0)
+    ∷ passing codeA true 2 openedSix (made 0 passedSix 1)
+    -- a threshold of 32 is taken, 33 refused with 9, after 6 and after a symbol of 251, in S and in D, with 7
+    ∷ passing codeA true 32 openedSix (made 0 openedSix 0)
+    ∷ passing codeA true 33 openedSix (made 9 openedSix 0)
+    ∷ passing codeA false 33 openedSix (made 6 openedSix 0)
+    ∷ passing (oneBranch 251 1 (0 ∷ [])) true 33 (stateBy (0 ∷ []) (251 ∷ []) (0 ∷ [])) (made 7 (stateBy (0 ∷ []) (251 ∷ []) (0 ∷ [])) 0)
+    ∷ passing (oneBranch 251 1 (0 ∷ [])) true 33 (stateBy (0 ∷ []) (0 ∷ []) (251 ∷ [])) (made 7 (stateBy (0 ∷ []) (0 ∷ []) (251 ∷ [])) 0)
+    -- five calls, of which two are refused: each gets what the one before it left, and their changes are 1 in all
+    ∷ called-in-turn codeA (fitting 3 ∷ fitting 33 ∷ record { threshold = 2; fits = false } ∷ fitting 2 ∷ fitting 2 ∷ []) openedSix passedSix 1 (3 ∷ 2 ∷ 2 ∷ [])
     ∷ []
 
 told-apart : map computed misreadings ≡ misreadings

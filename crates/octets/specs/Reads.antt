@@ -8,16 +8,16 @@ use native.Mathlib.Nat.{div-le-self, mul-le-mul-left}
 use native.Mathlib.Omega.{arith}
 use lib.Dec.{eqb}
 use lib.ListN.{length}
-use Rattle.model.specs.Bytes.{marginBytes, bytesOf, cDecodeOutcome}
-use Rattle.model.specs.Calls.{firstThatApplies, within, branchesFit, runsFit, sizeTests, tableTests, pageTests, tableAnswer, encodeAnswer, syndromeAnswer, decodeFits, decodeAnswer, outcome, encodeOutcome, syndromeOutcome, Decoded}
+use Rattle.model.specs.Bytes.{wordOf, marginBytes, bytesOf, cDecodeOutcome, cPassOutcome}
+use Rattle.model.specs.Calls.{firstThatApplies, within, branchesFit, runsFit, sizeTests, tableTests, pageTests, tableAnswer, encodeAnswer, syndromeAnswer, stateFits, decodeFits, decodeAnswer, openAnswer, passAnswer, outcome, encodeOutcome, syndromeOutcome, Decoded, openOutcome, Passed, passedState, passedChanges}
 use Rattle.model.specs.Code.{Code, codeOf, codeWord, syndrome}
-use Rattle.model.specs.Decoder.{State, decodedState, decodedCounts, marginsOf}
-use Rattle.model.specs.Demand.{Encodes, DecodeFalls, DecodeRecovers}
+use Rattle.model.specs.Decoder.{State, opened, decodedState, decodedCounts, marginsOf}
+use Rattle.model.specs.Demand.{Encodes, DecodeFalls, PassFalls, DecodeRecovers}
 use Rattle.model.specs.Limits.{SizeLimits}
 use Rattle.model.specs.Symbols.{choose}
 use Rattle.theory.specs.Answers.{refused-first, sizes-taken, page-taken, decode-taken}
 use Rattle.theory.specs.Outcomes.{left-as-lent, outcome-number}
-use Rattle.theory.specs.Statements.{decode-falls}
+use Rattle.theory.specs.Statements.{decode-falls, pass-falls}
 use Rattle.octets.specs.Positions.{kept, all-read, read-same}
 
 -- ---- too many positions are refused as none are
@@ -90,6 +90,24 @@ module _ (q k b : ℕ) (xs ps : List ℕ) (e : xs ≡ kept ps) where
   unfolding syndromeOutcome syndromeAnswer pageTests tableTests sizeTests
   syndrome-read page s =
       outcome-read (λ l. syndromeAnswer (codeOf q k b l) page (length s)) (λ l. syndrome (codeOf q k b l) page) s (λ l u. refused-first (sizeTests (codeOf q k b l)) _ u)
+
+  pub open-read : (page : List ℕ) (lent : State) → openOutcome (codeOf q k b xs) page lent ≡ openOutcome (codeOf q k b ps) page lent
+  unfolding openOutcome openAnswer pageTests tableTests sizeTests
+  open-read page lent =
+      outcome-read (λ l. openAnswer (codeOf q k b l) page lent) (λ l. opened (codeOf q k b l) page) lent (λ l u. refused-first (sizeTests (codeOf q k b l)) _ u)
+
+  -- a pass, and that it falls, by the number that it then returns
+  pub pass-whole : (t : ℕ) (lent : State) (changes : List ℕ) (r : ℕ) (x : Passed (List ℕ))
+      → record { number = r; left = x } ≡ cPassOutcome (codeOf q k b xs) t lent changes
+      → (record { number = r; left = x } ≡ cPassOutcome (codeOf q k b ps) t lent changes) × (r ≡ 0 → PassFalls (codeOf q k b ps) t lent)
+  unfolding cPassOutcome passAnswer pageTests tableTests sizeTests
+  pass-whole t lent changes r x o =
+      let others : Bool = eqb (length changes) 4 in
+      let whole = o
+      ∙ outcome-read (λ l. passAnswer (codeOf q k b l) (others && stateFits (codeOf q k b l) lent) t lent)
+      (λ l. record { state = passedState (codeOf q k b l) t lent; changes = wordOf (passedChanges (codeOf q k b l) t lent) })
+      (record { state = lent; changes = changes }) (λ l u. refused-first (sizeTests (codeOf q k b l)) _ u) in
+      (whole, λ z. pass-falls (codeOf q k b ps) others t lent (sym (outcome-number _ _ _ r x whole) ∙ z))
 
   pub decode-read : (page ts : List ℕ) (lent : State) (margins counts : List ℕ)
       → cDecodeOutcome (codeOf q k b xs) page ts lent margins counts ≡ cDecodeOutcome (codeOf q k b ps) page ts lent margins counts

@@ -1,4 +1,4 @@
--- Four bytes a number, written from the front; the bytes of the counts and of the margins.
+-- Four bytes a number, written from the front; the bytes of the counts, of the changes of a pass and of the margins.
 use mathlib.Core.Path.{_≡_, refl, ap, sym, _∙_}
 use mathlib.Core.List.{List, [], _∷_, _++_, append-nil, map}
 use Prim.Native.Nat.{ℕ, _+_, _*_, _≤_, _<_}
@@ -18,6 +18,12 @@ unfolding bytesOf
 counts-written d a b e f h =
     let vs : List ℕ = wordOf a ++ wordOf b ++ wordOf e ++ wordOf f in
     sets-eq vs d 0 (omega arith) ∙ ap (λ (l : List ℕ). vs ++ l) (drop-of-length-le d {i = 16} (omega arith)) ∙ append-nil vs
+
+-- ---- the changes of a pass
+
+pub word-written : (d : List ℕ) (n : ℕ) → length d ≡ 4 → sets d 0 (wordOf n) ≡ wordOf n
+word-written d n h =
+    sets-eq (wordOf n) d 0 (omega arith) ∙ ap (λ (l : List ℕ). wordOf n ++ l) (drop-of-length-le d {i = 4} (omega arith)) ∙ append-nil (wordOf n)
 
 -- ---- the margins
 

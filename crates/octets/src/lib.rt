@@ -1,4 +1,5 @@
-// What the C calls read and write as bytes, low byte first: the positions of a table, the margins and the counts of a decode.
+// What the C calls read and write as bytes, low byte first: the positions of a table, the margins and the counts of a decode, the changes
+// of a pass.
 use checks::Place;
 use params::Params;
 ghost use mathlib.Core.Path.{_≡_};
@@ -71,6 +72,14 @@ pub fn put_counts(d: &mut [u8], passes: u32, changes: u32, start: u32, end: u32)
     put_word(d, 4, changes);
     put_word(d, 8, start);
     put_word(d, 12, end);
+}
+
+// The 4 bytes of the changes of a pass.
+pub fn put_changes(d: &mut [u8], changes: u32)
+    requires { ⌜ length (now d) ≡ 4 ⌝ }
+    ensures { λ _. ⌜ now (d .exit) ≡ wordOf changes ⌝ }
+{
+    put_word(d, 0, changes);
 }
 
 // A signed number in two's complement.

@@ -4,13 +4,12 @@ use mathlib.Core.List.{List, []}
 use Prim.Native.Nat.{ℕ, zero, suc}
 use native.Mathlib.Omega.{arith}
 use Rattle.model.specs.Code.{Code, dataCount, dataOf, syndrome}
-use Rattle.model.specs.Decoder.{State, stateBy, after, opened, distanceTo}
+use Rattle.model.specs.Decoder.{State, stateBy, after, opened, distanceTo, stateWeight}
 use Rattle.model.specs.Symbols.{weight, tabulate}
 use Rattle.theory.specs.Answers.{Opens}
 use Rattle.theory.specs.Codes.{ByteCode}
 use Rattle.theory.specs.Counting.{differ-no}
 use Rattle.theory.specs.Decoding.{code-distance}
-use Rattle.theory.specs.Steps.{stateWeight}
 
 weight-zeros : (n : ℕ) → weight (tabulate n (λ i. 0)) ≡ 0
 unfolding tabulate weight

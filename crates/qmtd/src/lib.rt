@@ -1,35 +1,28 @@
-// The C calls: they read positions and write margins and counts as bytes, and call the Rattle functions; nothing is decided twice.
+// The C calls, exported: each is the function of its C form.
 ghost use mathlib.Core.Path.{_≡_};
 ghost use Rattle.model.specs.Code.{codeOf};
 ghost use Rattle.model.specs.Decoder.{stateBy, decodedCounts};
-ghost use Rattle.model.specs.Calls.{tableAnswer, encodeOutcome, syndromeOutcome};
-ghost use Rattle.model.specs.Bytes.{positionsOf, cDecodeOutcome};
-ghost use Rattle.model.specs.Demand.{Encodes, DecodeFalls, DecodeRecovers};
+ghost use Rattle.model.specs.Calls.{tableAnswer, encodeOutcome, syndromeOutcome, openOutcome};
+ghost use Rattle.model.specs.Bytes.{positionsOf, cDecodeOutcome, cPassOutcome};
+ghost use Rattle.model.specs.Demand.{Encodes, DecodeFalls, DecodeRecovers, PassFalls};
 
 // The version: major times 10,000 plus minor times 100 plus patch.
 #[no_mangle]
 pub extern "C" fn qmtd_version() -> u32
-    ensures { λ r. ⌜ r ≡ 500 ⌝ }
+    ensures { λ r. ⌜ r ≡ 600 ⌝ }
 {
-    500
+    600
 }
 
-// Checks a code table. A small table is read into a small buffer, which costs less to clear.
+// Checks a code table.
 #[no_mangle]
 pub extern "C" fn qmtd_check_table(q: u32, k: u32, b: u32, table: &[u8]) -> u32
     ensures { λ r. ⌜ r ≡ tableAnswer (codeOf q k b (positionsOf (now (table .entry)))) ⌝ }
 {
-    if table.len() <= 64 {
-        let mut few = [0u16; 32];
-        let n = octets::read_positions(table, &mut few);
-        return table::check_table(q, k, b, &few[..n]);
-    }
-    let mut positions = [0u16; 256];
-    let n = octets::read_positions(table, &mut positions);
-    table::check_table(q, k, b, &positions[..n])
+    c_page::check_table(q, k, b, table)
 }
 
-// Encodes data into a page. A small table is read into a small buffer, which costs less to clear.
+// Encodes data into a page.
 #[no_mangle]
 pub extern "C" fn qmtd_encode(
     q: u32,
@@ -43,17 +36,10 @@ pub extern "C" fn qmtd_encode(
         ≡ encodeOutcome (codeOf q k b (positionsOf (now (table .entry)))) (now («data» .entry)) (now (page .entry)) ⌝ }
     ensures word { λ r. ⌜ (r ≡ 0 → Encodes (codeOf q k b (positionsOf (now (table .entry)))) (now («data» .entry)) (now (page .exit))) ⌝ }
 {
-    if table.len() <= 64 {
-        let mut few = [0u16; 32];
-        let n = octets::read_positions(table, &mut few);
-        return page::encode(q, k, b, &few[..n], data, page);
-    }
-    let mut positions = [0u16; 256];
-    let n = octets::read_positions(table, &mut positions);
-    page::encode(q, k, b, &positions[..n], data, page)
+    c_page::encode(q, k, b, table, data, page)
 }
 
-// Works out the syndrome of a page. A small table is read into a small buffer, which costs less to clear.
+// Works out the syndrome of a page.
 #[no_mangle]
 pub extern "C" fn qmtd_syndrome(
     q: u32,
@@ -66,14 +52,7 @@ pub extern "C" fn qmtd_syndrome(
     ensures { λ r. ⌜ record { number = r; left = now (syndrome .exit) }
         ≡ syndromeOutcome (codeOf q k b (positionsOf (now (table .entry)))) (now (page .entry)) (now (syndrome .entry)) ⌝ }
 {
-    if table.len() <= 64 {
-        let mut few = [0u16; 32];
-        let n = octets::read_positions(table, &mut few);
-        return page::syndrome(q, k, b, &few[..n], page, syndrome);
-    }
-    let mut positions = [0u16; 256];
-    let n = octets::read_positions(table, &mut positions);
-    page::syndrome(q, k, b, &positions[..n], page, syndrome)
+    c_page::syndrome(q, k, b, table, page, syndrome)
 }
 
 // Decodes a page.
@@ -116,5 +95,58 @@ pub extern "C" fn qmtd_decode(
         difference,
         margins,
         counts,
+    )
+}
+
+// Opens a page.
+#[no_mangle]
+pub extern "C" fn qmtd_open(
+    q: u32,
+    k: u32,
+    b: u32,
+    table: &[u8],
+    page: &[u8],
+    result: &mut [u8],
+    syndrome: &mut [u8],
+    difference: &mut [u8],
+) -> u32
+    ensures { λ r. ⌜ record { number = r; left = stateBy (now (result .exit)) (now (syndrome .exit)) (now (difference .exit)) }
+        ≡ openOutcome (codeOf q k b (positionsOf (now (table .entry)))) (now (page .entry))
+        (stateBy (now (result .entry)) (now (syndrome .entry)) (now (difference .entry))) ⌝ }
+{
+    c_page::open(q, k, b, table, page, result, syndrome, difference)
+}
+
+// Makes one pass.
+#[no_mangle]
+pub extern "C" fn qmtd_pass(
+    q: u32,
+    k: u32,
+    b: u32,
+    table: &[u8],
+    threshold: u32,
+    result: &mut [u8],
+    syndrome: &mut [u8],
+    difference: &mut [u8],
+    changes: &mut [u8],
+) -> u32
+    ensures outcome { λ r. ⌜ record {
+      number = r;
+      left = record { state = stateBy (now (result .exit)) (now (syndrome .exit)) (now (difference .exit)); changes = now (changes .exit) };
+    } ≡ cPassOutcome (codeOf q k b (positionsOf (now (table .entry)))) threshold
+        (stateBy (now (result .entry)) (now (syndrome .entry)) (now (difference .entry))) (now (changes .entry)) ⌝ }
+    ensures falling { λ r. ⌜ (r ≡ 0 → PassFalls (codeOf q k b (positionsOf (now (table .entry)))) threshold
+        (stateBy (now (result .entry)) (now (syndrome .entry)) (now (difference .entry)))) ⌝ }
+{
+    c_passing::pass(
+        q,
+        k,
+        b,
+        table,
+        threshold,
+        result,
+        syndrome,
+        difference,
+        changes,
     )
 }

@@ -7,11 +7,10 @@ use Prim.Native.Nat.{ℕ, _+_, _≤_}
 use lib.ListN.{length, take}
 use Rattle.model.specs.Calls.{Outcome, outcome, decodeAnswer, noCounts}
 use Rattle.model.specs.Code.{Code, dataCount}
-use Rattle.model.specs.Decoder.{State, run, Counts, decodedState, decodedCounts}
+use Rattle.model.specs.Decoder.{State, run, Counts, decodedState, decodedCounts, stateWeight}
 use Rattle.model.specs.Symbols.{weight}
 use Rattle.theory.specs.Answers.{Opens}
 use Rattle.theory.specs.Decoding.{code-sized}
-use Rattle.theory.specs.Steps.{stateWeight}
 use Rattle.correction.specs.Decoded.{decoded, decoded-distance}
 use Rattle.margins.specs.Margins.{Left}
 use Rattle.visits.specs.Progress.{Progress}

@@ -91,19 +91,27 @@ impl Piece {
         Piece::read(record, 16 + 4 * (number_at(record, 8) as usize))
     }
 
+    // Where the content after the call stands: behind the one before it, where the record gives both.
+    fn due_at(self, record: &[u8]) -> usize {
+        if self.gives == 3 {
+            return skip(record, self.at, self.len);
+        }
+        self.at
+    }
+
     // Where the contents end.
     fn end(self, record: &[u8]) -> usize {
         if self.gives == 0 {
             return self.at;
         }
-        skip(record, self.at, self.len)
+        skip(record, self.due_at(record), self.len)
     }
 
     fn next(self, record: &[u8]) -> Piece {
         Piece::read(record, self.end(record))
     }
 
-    // What a call reads.
+    // What a call reads, or what lent memory holds before it.
     fn content(self, record: &[u8]) -> &[u8] {
         part(record, self.at, self.len)
     }
@@ -140,10 +148,10 @@ impl Piece {
         if lent.len() != self.len {
             return false;
         }
-        if self.gives == 2 {
-            return check::same(lent, self.content(record));
+        if self.gives == 0 {
+            return is_filled(lent);
         }
-        self.gives == 0 && is_filled(lent)
+        check::same(lent, part(record, self.due_at(record), self.len))
     }
 
     // A margin after the call: as the record gives it at a place, or else as it was.
@@ -193,6 +201,27 @@ fn is_filled(lent: &[u8]) -> bool {
     check::same(lent, &fill[0..n])
 }
 
+// The byte at a place; past the end the one that fills lent memory.
+fn byte_at(bytes: &[u8], at: usize) -> u8 {
+    if bytes.len() <= at {
+        return FILL;
+    }
+    bytes[at]
+}
+
+// Memory to lend that holds these bytes.
+fn holding(bytes: &[u8]) -> [u8; MOST]
+    ensures { λ r. ⌜ 8300 ≡ length r ⌝ }
+{
+    let mut lent = [FILL; MOST];
+    let mut i = 0;
+    while i < MOST {
+        lent[i] = byte_at(bytes, i);
+        i += 1;
+    }
+    lent
+}
+
 fn position_of(low: u8, high: u8) -> u16 {
     (low as u16) + 256 * (high as u16)
 }
@@ -238,9 +267,14 @@ fn b_of(record: &[u8]) -> u32 {
     number_at(record, 24)
 }
 
-// Has the record q, k, b and so many strings, and nothing behind the last?
-fn is_whole(record: &[u8], strings: u32, last: Piece) -> bool {
-    number_at(record, 8) == 3
+// The threshold of a pass.
+fn threshold_of(record: &[u8]) -> u32 {
+    number_at(record, 28)
+}
+
+// Has the record so many numbers and strings, and nothing behind the last?
+fn is_whole(record: &[u8], numbers: u32, strings: u32, last: Piece) -> bool {
+    number_at(record, 8) == numbers
         && number_at(record, 12) == strings
         && last.end(record) == record.len()
 }
@@ -251,7 +285,7 @@ fn check_table_is_right(record: &[u8]) -> bool {
     let positions = read_positions(table.content(record));
     let n = table.positions();
     let number = table::check_table(q_of(record), k_of(record), b_of(record), &positions[0..n]);
-    number == returned(record) && is_whole(record, 1, table)
+    number == returned(record) && is_whole(record, 3, 1, table)
 }
 
 // Encode or syndrome, which take one input and one lent buffer.
@@ -283,7 +317,7 @@ fn code_with(record: &[u8], lent: &mut [u8]) -> bool {
     let positions = read_positions(table.content(record));
     let n = table.positions();
     let number = code(record, &positions[0..n], input.content(record), lent);
-    number == returned(record) && output.is_due(record, lent) && is_whole(record, 3, output)
+    number == returned(record) && output.is_due(record, lent) && is_whole(record, 3, 3, output)
 }
 
 fn code_is_right(record: &[u8]) -> bool {
@@ -338,7 +372,7 @@ fn decode_with(
         && difference.is_due(record, third)
         && margins.margins_are_due(record, fourth)
         && counts_are_due(got, record, counts)
-        && is_whole(record, 8, counts)
+        && is_whole(record, 3, 8, counts)
 }
 
 fn decode_is_right(record: &[u8]) -> bool {
@@ -365,6 +399,95 @@ fn decode_is_right(record: &[u8]) -> bool {
     )
 }
 
+fn open_with(record: &[u8], first: &mut [u8], second: &mut [u8], third: &mut [u8]) -> bool {
+    let table = Piece::first(record);
+    let page = table.next(record);
+    let result = page.next(record);
+    let syndrome = result.next(record);
+    let difference = syndrome.next(record);
+    let positions = read_positions(table.content(record));
+    let n = table.positions();
+    let number = opener::open(
+        q_of(record),
+        k_of(record),
+        b_of(record),
+        &positions[0..n],
+        page.content(record),
+        first,
+        second,
+        third,
+    );
+    number == returned(record)
+        && result.is_due(record, first)
+        && syndrome.is_due(record, second)
+        && difference.is_due(record, third)
+        && is_whole(record, 3, 5, difference)
+}
+
+fn open_is_right(record: &[u8]) -> bool {
+    let result = Piece::first(record).next(record).next(record);
+    let syndrome = result.next(record);
+    let difference = syndrome.next(record);
+    let mut first = filled();
+    let mut second = filled();
+    let mut third = filled();
+    let a = result.lent();
+    let b = syndrome.lent();
+    let c = difference.lent();
+    open_with(
+        record,
+        &mut first[0..a],
+        &mut second[0..b],
+        &mut third[0..c],
+    )
+}
+
+// A pass reads the memory that it writes; refused, it hands back no changes.
+fn pass_with(record: &[u8], first: &mut [u8], second: &mut [u8], third: &mut [u8]) -> bool {
+    let table = Piece::first(record);
+    let result = table.next(record);
+    let syndrome = result.next(record);
+    let difference = syndrome.next(record);
+    let changes = difference.next(record);
+    let positions = read_positions(table.content(record));
+    let n = table.positions();
+    let got = passing::pass(
+        q_of(record),
+        k_of(record),
+        b_of(record),
+        &positions[0..n],
+        threshold_of(record),
+        first,
+        second,
+        third,
+    );
+    got.number == returned(record)
+        && result.is_due(record, first)
+        && syndrome.is_due(record, second)
+        && difference.is_due(record, third)
+        && changes.len == 4
+        && got.changes == number_at(record, changes.written_at())
+        && is_whole(record, 4, 5, changes)
+}
+
+fn pass_is_right(record: &[u8]) -> bool {
+    let result = Piece::first(record).next(record);
+    let syndrome = result.next(record);
+    let difference = syndrome.next(record);
+    let mut first = holding(result.content(record));
+    let mut second = holding(syndrome.content(record));
+    let mut third = holding(difference.content(record));
+    let a = result.lent();
+    let b = syndrome.lent();
+    let c = difference.lent();
+    pass_with(
+        record,
+        &mut first[0..a],
+        &mut second[0..b],
+        &mut third[0..c],
+    )
+}
+
 // A record that no function here can run came out wrong.
 fn is_unknown(call: u32) -> bool {
     print(b"\nno call has the number ");
@@ -379,6 +502,8 @@ fn is_right(record: &[u8]) -> bool {
         1 => check_table_is_right(record),
         2 | 3 => code_is_right(record),
         4 => decode_is_right(record),
+        5 => open_is_right(record),
+        6 => pass_is_right(record),
         _ => is_unknown(call),
     }
 }

@@ -2,15 +2,15 @@
 use mathlib.Core.Path.{_≡_, refl, ap, sym, _∙_, subst}
 use mathlib.Core.Logic.{_≢_}
 use mathlib.Core.Bool.{Bool, true, false, not, _&&_}
-use mathlib.Core.List.{List, [], _∷_, _++_}
+use mathlib.Core.List.{List, [], _∷_, _++_, append-assoc}
 use Prim.Native.Nat.{ℕ, zero, suc, _*_, _≤_, _<_}
 use native.Mathlib.Decide.{ℕ-discrete}
 use native.Mathlib.Omega.{arith}
-use lib.Dec.{T, eqb, ltb, leb, eqb→eq, ltb→lt, leb→le, le→leb}
+use lib.Dec.{T, eqb, ltb, leb, eqb→eq, ltb→lt, lt→ltb, leb→le, le→leb}
 use lib.ListN.{length, take}
 use lib.Seq.{take-at}
-use borrow.Author.Tests.{lt-leb}
-use Rattle.model.specs.Calls.{Test, test, firstThatApplies, within, positionsFit, allBelow, branchesFit, runsFit, sizeTests, tableFits, tableTests, pageTests, thresholdTests, stateFits, decodeFits, tableAnswer, encodeAnswer, decodeAnswer}
+use borrow.Author.Tests.{lt-leb, le-ltb}
+use Rattle.model.specs.Calls.{Test, test, firstThatApplies, within, positionsFit, allBelow, branchesFit, runsFit, sizeTests, tableFits, tableTests, pageTests, thresholdTests, thresholdTest, stateFits, decodeFits, tableAnswer, encodeAnswer, decodeAnswer, openAnswer, stateSymbols, passAnswer}
 use Rattle.model.specs.Code.{Code, dataCount, checkCount, pageLength, checksEach, branchAt, checkSymbols, codeWord, dataOf, selfOrthogonal}
 use Rattle.model.specs.Decoder.{State}
 use Rattle.model.specs.Demand.{Encodes}
@@ -18,7 +18,7 @@ use Rattle.model.specs.Limits.{SizeLimits, Limits}
 use Rattle.model.specs.Symbols.{choose, Below}
 use Rattle.theory.specs.Codes.{Usable, ByteCode}
 use Rattle.theory.specs.Counting.{is-true, eqb-yes}
-use Rattle.theory.specs.Steps.{SymbolsBelow}
+use Rattle.theory.specs.Steps.{SymbolsBelow, Sized}
 use Rattle.theory.specs.Tables.{fit-test, every-facts, every-make, orthogonal-test}
 
 pub and-true : (a b : Bool) → (a && b) ≡ true → (a ≡ true) × (b ≡ true)
@@ -106,6 +106,21 @@ all-below q pos [] e i = pos
 all-below q pos (x ∷ xs) e zero = ltb→lt x q (subst T (sym (and-true (ltb x q) (allBelow q xs) e .0)) tt)
 all-below q pos (x ∷ xs) e (suc i) = all-below q pos xs (and-true (ltb x q) (allBelow q xs) e .1) i
 
+pub below-all : (q : ℕ) (s : List ℕ) → Below q s → allBelow q s ≡ true
+unfolding allBelow
+below-all q [] b = refl
+below-all q (x ∷ xs) b = rw (is-true (ltb x q) (lt→ltb x q (b 0)), below-all q xs (λ i. b (suc i))) refl
+
+-- two lists, one after the other
+pub all-append : (q : ℕ) (xs ys : List ℕ) → allBelow q (xs ++ ys) ≡ (allBelow q xs && allBelow q ys)
+unfolding allBelow
+all-append q [] ys = refl
+all-append q (x ∷ xs) ys = go (ltb x q) (all-append q xs ys)
+  where
+    go : (b : Bool) → allBelow q (xs ++ ys) ≡ (allBelow q xs && allBelow q ys) → (b && allBelow q (xs ++ ys)) ≡ ((b && allBelow q xs) && allBelow q ys)
+    go true e = e
+    go false e = refl
+
 -- ---- the table
 
 -- what tests 2, 10 and 3 leave
@@ -188,9 +203,13 @@ pub record PageFits (c : Code) (fits : Bool) (input : List ℕ) : Type 0 where
   pub symbols : Below (c .q) input
 
 -- their number is the table's where that is not 0; else the tests of lengths and symbols give it
+refused-table : (c : Code) (later : List Test) → tableAnswer c ≢ 0 → firstThatApplies (tableTests c ++ later) ≡ tableAnswer c
+unfolding tableAnswer
+refused-table c later n = refused-first (tableTests c) later n
+
 pub page-refused : (c : Code) (fits : Bool) (input : List ℕ) → tableAnswer c ≢ 0 → firstThatApplies (pageTests c fits input) ≡ tableAnswer c
-unfolding pageTests tableAnswer
-page-refused c fits input n = refused-first (tableTests c) _ n
+unfolding pageTests
+page-refused c fits input n = refused-table c _ n
 
 pub page-passed : (c : Code) (fits : Bool) (input : List ℕ) → tableAnswer c ≡ 0
     → firstThatApplies (pageTests c fits input) ≡ firstThatApplies (test 6 (not fits) ∷ test 7 (not (allBelow (c .q) input)) ∷ [])
@@ -253,32 +272,186 @@ pub record Taken (c : Code) (page thresholds : List ℕ) (lent : State) : Type 0
   pub opens : Opens c page lent
   pub some : 1 ≤ length thresholds
   pub few : length thresholds ≤ 64
+  pub small : allBelow 33 thresholds ≡ true
+
+-- the lengths of the three buffers
+pub record StateLengths (c : Code) (lent : State) : Type 0 where
+  pub result-length : length (lent .result) ≡ dataCount c
+  pub syndrome-length : length (lent .syndrome) ≡ checkCount c
+  pub difference-length : length (lent .difference) ≡ dataCount c
+
+state-lengths : (c : Code) (lent : State) → stateFits c lent ≡ true → StateLengths c lent
+state-lengths c lent e =
+    let r = and-true (eqb (length (lent .result)) (dataCount c)) _ e in
+    let s = and-true (eqb (length (lent .syndrome)) (checkCount c)) (eqb (length (lent .difference)) (dataCount c)) (r .1) in
+    record {
+      result-length = eqb-true (length (lent .result)) (dataCount c) (r .0);
+      syndrome-length = eqb-true (length (lent .syndrome)) (checkCount c) (s .0);
+      difference-length = eqb-true (length (lent .difference)) (dataCount c) (s .1);
+    }
+
+opens-by : (c : Code) (others : Bool) (page : List ℕ) (lent : State) → PageFits c (others && decodeFits c page lent) page → Opens c page lent
+opens-by c others page lent f =
+    let b = and-true (eqb (length page) (pageLength c)) (stateFits c lent) (and-true others (decodeFits c page lent) (f .buffers) .1) in
+    let n = state-lengths c lent (b .1) in
+    record {
+      usable = f .usable;
+      bytes = f .limits .q-high;
+      whole = record { len = eqb-true (length page) (pageLength c) (b .0); low = f .symbols };
+      len-result = n .result-length;
+      len-syndrome = n .syndrome-length;
+      len-difference = n .difference-length;
+    }
 
 pub decode-taken : (c : Code) (others : Bool) (page thresholds : List ℕ) (lent : State) → decodeAnswer c (others && decodeFits c page lent) page thresholds ≡ 0
     → Taken c page thresholds lent
 unfolding decodeAnswer pageTests tableTests sizeTests thresholdTests
 decode-taken c others page ts lent e =
     let t = taken-first (pageTests c (others && decodeFits c page lent) page) (thresholdTests ts) refl e in
-    let f = page-taken c (others && decodeFits c page lent) page (t .0) in
-    let w = within-facts 1 64 (length ts) (taken-by 7 (within 1 64 (length ts)) _ (t .1) .0) in
-    let b = and-true (eqb (length page) (pageLength c)) (stateFits c lent) (and-true others (decodeFits c page lent) (f .buffers) .1) in
-    let r = and-true (eqb (length (lent .result)) (dataCount c)) _ (b .1) in
-    let s = and-true (eqb (length (lent .syndrome)) (checkCount c)) (eqb (length (lent .difference)) (dataCount c)) (r .1) in
+    let some = taken-by 7 (within 1 64 (length ts)) _ (t .1) in
+    let w = within-facts 1 64 (length ts) (some .0) in
     record {
-      opens = record {
-        usable = f .usable;
-        bytes = f .limits .q-high;
-        whole = record { len = eqb-true (length page) (pageLength c) (b .0); low = f .symbols };
-        len-result = eqb-true (length (lent .result)) (dataCount c) (r .0);
-        len-syndrome = eqb-true (length (lent .syndrome)) (checkCount c) (s .0);
-        len-difference = eqb-true (length (lent .difference)) (dataCount c) (s .1);
-      };
+      opens = opens-by c others page lent (page-taken c (others && decodeFits c page lent) page (t .0));
       some = w .0;
       few = w .1;
+      small = taken-by 8 (allBelow 33 ts) [] (some .1) .0;
     }
 
-pub decode-others : (c : Code) (others : Bool) (page thresholds : List ℕ) (lent : State) → decodeAnswer c (others && decodeFits c page lent) page thresholds ≡ 0 → others ≡ true
-unfolding decodeAnswer pageTests tableTests sizeTests thresholdTests
-decode-others c others page ts lent e =
+-- where decode takes its inputs, so does open
+pub decode-opens : (c : Code) (others : Bool) (page thresholds : List ℕ) (lent : State) → decodeAnswer c (others && decodeFits c page lent) page thresholds ≡ 0
+    → (others ≡ true) × (openAnswer c page lent ≡ 0)
+unfolding decodeAnswer openAnswer pageTests tableTests sizeTests thresholdTests
+decode-opens c others page ts lent e =
     let t = taken-first (pageTests c (others && decodeFits c page lent) page) (thresholdTests ts) refl e in
-    and-true others (decodeFits c page lent) (page-taken c (others && decodeFits c page lent) page (t .0) .buffers) .0
+    let o = and-true others (decodeFits c page lent) (page-taken c (others && decodeFits c page lent) page (t .0) .buffers) .0 in
+    (o, subst (λ (b : Bool). firstThatApplies (pageTests c (b && decodeFits c page lent) page) ≡ 0) o (t .0))
+
+-- ---- open
+
+pub open-taken : (c : Code) (page : List ℕ) (lent : State) → openAnswer c page lent ≡ 0 → (tableAnswer c ≡ 0) × Opens c page lent
+unfolding openAnswer pageTests tableAnswer tableTests sizeTests
+open-taken c page lent e = (
+  taken-first (tableTests c) (test 6 (not (decodeFits c page lent)) ∷ test 7 (not (allBelow (c .q) page)) ∷ []) refl e .0,
+  opens-by c true page lent (page-taken c (decodeFits c page lent) page e),
+)
+
+-- ---- a pass
+
+-- its tests after those of the table
+abbrev laterTests : Code → Bool → ℕ → State → List Test
+laterTests c fits t lent = test 6 (not fits) ∷ test 7 (not (allBelow (c .q) (stateSymbols lent))) ∷ test 9 (not (ltb t 33)) ∷ []
+
+tests-of : (c : Code) (fits : Bool) (t : ℕ) (lent : State) → passAnswer c fits t lent ≡ firstThatApplies (tableTests c ++ laterTests c fits t lent)
+unfolding passAnswer pageTests thresholdTest
+tests-of c fits t lent = ap firstThatApplies (append-assoc (tableTests c) (test 6 (not fits) ∷ test 7 (not (allBelow (c .q) (stateSymbols lent))) ∷ []) (thresholdTest t))
+
+-- where the table is accepted, they give its number
+module _ (c : Code) (fits : Bool) (t : ℕ) (lent : State) (e : tableAnswer c ≡ 0) where
+  pass-passed : passAnswer c fits t lent ≡ firstThatApplies (laterTests c fits t lent)
+  unfolding tableAnswer tableTests sizeTests
+  pass-passed = tests-of c fits t lent ∙ passed-first (tableTests c) (laterTests c fits t lent) refl e
+
+  pub pass-six : fits ≡ false → passAnswer c fits t lent ≡ 6
+  pass-six f = pass-passed ∙ refused-by 6 fits _ f
+
+  pass-seven : fits ≡ true → allBelow (c .q) (stateSymbols lent) ≡ false → passAnswer c fits t lent ≡ 7
+  pass-seven f b = pass-passed ∙ passed-by 6 fits _ f ∙ refused-by 7 (allBelow (c .q) (stateSymbols lent)) _ b
+
+  pass-nine : fits ≡ true → allBelow (c .q) (stateSymbols lent) ≡ true → 33 ≤ t → passAnswer c fits t lent ≡ 9
+  pass-nine f b h = pass-passed ∙ passed-by 6 fits _ f ∙ passed-by 7 (allBelow (c .q) (stateSymbols lent)) _ b ∙ refused-by 9 (ltb t 33) _ (le-ltb t 33 h)
+
+  pass-zero : fits ≡ true → allBelow (c .q) (stateSymbols lent) ≡ true → t < 33 → passAnswer c fits t lent ≡ 0
+  pass-zero f b h =
+      pass-passed ∙ passed-by 6 fits _ f ∙ passed-by 7 (allBelow (c .q) (stateSymbols lent)) _ b ∙ passed-by 9 (ltb t 33) _ (is-true (ltb t 33) (lt→ltb t 33 h)) ∙ nothing-applies
+
+-- the test of the symbols, buffer by buffer
+pub state-below : (q : ℕ) (st : State) → allBelow q (stateSymbols st) ≡ (allBelow q (st .result) && (allBelow q (st .syndrome) && allBelow q (st .difference)))
+state-below q st = all-append q (st .result) (st .syndrome ++ st .difference) ∙ ap (λ (b : Bool). allBelow q (st .result) && b) (all-append q (st .syndrome) (st .difference))
+
+-- its number is that of the page tests with the result for input where that is not 0
+pub pass-refused : (c : Code) (fits : Bool) (t : ℕ) (lent : State) → firstThatApplies (pageTests c fits (lent .result)) ≢ 0
+    → passAnswer c fits t lent ≡ firstThatApplies (pageTests c fits (lent .result))
+pass-refused c fits t lent n = elim (ℕ-discrete (tableAnswer c) 0) as (λ o. passAnswer c fits t lent ≡ firstThatApplies (pageTests c fits (lent .result))) [
+  | yes e ↦ go e fits (allBelow (c .q) (lent .result)) refl refl
+  | no m ↦ tests-of c fits t lent ∙ refused-table c (laterTests c fits t lent) m ∙ sym (page-refused c fits (lent .result) m)
+]
+  where
+    go : tableAnswer c ≡ 0 → (f b : Bool) → fits ≡ f → allBelow (c .q) (lent .result) ≡ b → passAnswer c fits t lent ≡ firstThatApplies (pageTests c fits (lent .result))
+    go e false b ef eb = pass-six c fits t lent e ef ∙ sym (page-passed c fits (lent .result) e ∙ refused-by 6 fits _ ef)
+    go e true false ef eb =
+        pass-seven c fits t lent e ef (state-below (c .q) lent ∙ rw eb refl)
+        ∙ sym (page-passed c fits (lent .result) e ∙ passed-by 6 fits _ ef ∙ refused-by 7 (allBelow (c .q) (lent .result)) _ eb)
+    go e true true ef eb =
+        absurd (n (page-passed c fits (lent .result) e ∙ passed-by 6 fits _ ef ∙ passed-by 7 (allBelow (c .q) (lent .result)) _ eb ∙ nothing-applies))
+
+-- else the tests of S, of D and of the threshold give it
+module _ (c : Code) (fits : Bool) (t : ℕ) (lent : State) (e : firstThatApplies (pageTests c fits (lent .result)) ≡ 0) where
+  table-zero : tableAnswer c ≡ 0
+  unfolding pageTests tableAnswer tableTests sizeTests
+  table-zero = taken-first (tableTests c) (test 6 (not fits) ∷ test 7 (not (allBelow (c .q) (lent .result))) ∷ []) refl e .0
+
+  fits-true : fits ≡ true
+  fits-true = page-taken c fits (lent .result) e .buffers
+
+  result-true : allBelow (c .q) (lent .result) ≡ true
+  result-true = below-all (c .q) (lent .result) (page-taken c fits (lent .result) e .symbols)
+
+  pub pass-syndrome : allBelow (c .q) (lent .syndrome) ≡ false → passAnswer c fits t lent ≡ 7
+  pass-syndrome s = pass-seven c fits t lent table-zero fits-true (state-below (c .q) lent ∙ rw (result-true, s) refl)
+
+  pub pass-difference : allBelow (c .q) (lent .syndrome) ≡ true → allBelow (c .q) (lent .difference) ≡ false → passAnswer c fits t lent ≡ 7
+  pass-difference s d = pass-seven c fits t lent table-zero fits-true (state-below (c .q) lent ∙ rw (result-true, s, d) refl)
+
+  module _ (s : allBelow (c .q) (lent .syndrome) ≡ true) (d : allBelow (c .q) (lent .difference) ≡ true) where
+    all-true : allBelow (c .q) (stateSymbols lent) ≡ true
+    all-true = state-below (c .q) lent ∙ rw (result-true, s, d) refl
+
+    pub pass-high : 33 ≤ t → passAnswer c fits t lent ≡ 9
+    pass-high h = pass-nine c fits t lent table-zero fits-true all-true h
+
+    pub pass-none : t < 33 → passAnswer c fits t lent ≡ 0
+    pass-none h = pass-zero c fits t lent table-zero fits-true all-true h
+
+-- what a pass takes: an accepted table, three buffers of symbols below q of the right lengths, a threshold of at most 32
+pub record PassTaken (c : Code) (t : ℕ) (lent : State) : Type 0 where
+  pub table : tableAnswer c ≡ 0
+  pub bytes : c .q ≤ 256
+  pub sized : Sized (c .q) (dataCount c) (checkCount c) lent
+  pub small : t < 33
+
+pub pass-taken : (c : Code) (others : Bool) (t : ℕ) (lent : State) → passAnswer c (others && stateFits c lent) t lent ≡ 0 → (others ≡ true) × PassTaken c t lent
+unfolding tableAnswer tableTests sizeTests
+pass-taken c others t lent e =
+    let fits : Bool = others && stateFits c lent in
+    let f = taken-first (tableTests c) (laterTests c fits t lent) refl (sym (tests-of c fits t lent) ∙ e) in
+    let six = taken-by 5 fits _ (f .1) in
+    let seven = taken-by 6 (allBelow (c .q) (stateSymbols lent)) _ (six .1) in
+    let nine = taken-by 8 (ltb t 33) [] (seven .1) in
+    let a = table-accepted c (f .0) in
+    let pos : zero < c .q = omega (arith, a .0 .q-low) in
+    let o = and-true others (stateFits c lent) (six .0) in
+    let n = state-lengths c lent (o .1) in
+    let r = and-true (allBelow (c .q) (lent .result)) _ (sym (state-below (c .q) lent) ∙ seven .0) in
+    let s = and-true (allBelow (c .q) (lent .syndrome)) (allBelow (c .q) (lent .difference)) (r .1) in (
+      o .0,
+      record {
+        table = f .0;
+        bytes = a .0 .q-high;
+        sized = record {
+          len-result = n .result-length;
+          len-syndrome = n .syndrome-length;
+          len-difference = n .difference-length;
+          in-result = all-below (c .q) pos (lent .result) (r .0);
+          in-syndrome = all-below (c .q) pos (lent .syndrome) (s .0);
+          in-difference = all-below (c .q) pos (lent .difference) (s .1);
+        };
+        small = ltb→lt t 33 (subst T (sym (nine .0)) tt);
+      },
+    )
+
+pub pass-takes : (c : Code) (t : ℕ) (lent : State) → tableAnswer c ≡ 0 → Sized (c .q) (dataCount c) (checkCount c) lent → t < 33
+    → passAnswer c (stateFits c lent) t lent ≡ 0
+pass-takes c t lent e z l =
+    pass-zero c (stateFits c lent) t lent e (rw (eqb-yes _ _ (z .len-result), eqb-yes _ _ (z .len-syndrome), eqb-yes _ _ (z .len-difference)) refl)
+    (state-below (c .q) lent ∙ rw (below-all (c .q) (lent .result) (z .in-result), below-all (c .q) (lent .syndrome) (z .in-syndrome), below-all (c .q) (lent .difference) (z .in-difference)) refl)
+    l

@@ -5,7 +5,7 @@ use Prim.Native.Nat.{ℕ, _≤_, _<_}
 use native.Mathlib.Omega.{arith}
 use lib.ListN.{take, drop, take-append-drop}
 use Rattle.model.specs.Code.{Code, dataCount, checkCount, pageLength, checksEach, checksOf}
-use Rattle.model.specs.Decoder.{State, Visit, after, changeCount, pass, passes, none, dataSymbols, opened, passesOf, distanceTo}
+use Rattle.model.specs.Decoder.{State, Visit, after, changeCount, pass, passes, none, dataSymbols, opened, passesOf, distanceTo, stateWeight}
 use Rattle.model.specs.Demand.{Falls, RunFalls, Recovers}
 use Rattle.model.specs.Symbols.{count, distance}
 use Rattle.theory.specs.Answers.{encoded-symbols, encoded-data}
@@ -16,7 +16,7 @@ use Rattle.theory.specs.Falling.{InRange, after-sized, after-tied, idle-
 use Rattle.theory.specs.Page.{received, opened-sized, opened-tied, page-falls, page-recovers}
 use Rattle.theory.specs.Runs.{range-pass, range-passes, symbols-range, covered-passes}
 use Rattle.theory.specs.Schedule.{minima, idle-run}
-use Rattle.theory.specs.Steps.{SymbolsBelow, Sized, stateWeight}
+use Rattle.theory.specs.Steps.{SymbolsBelow, Sized}
 
 module _ (c : Code) (l : Usable c) (page : List ℕ) (whole : SymbolsBelow (c .q) (pageLength c) page) where
   distance-of : distanceTo c page ≡ (λ (s : State). distance (wordOf (c .q) (dataCount c) (checkCount c) (checksOf c) (s .result)) page)

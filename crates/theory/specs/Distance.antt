@@ -8,11 +8,11 @@ use native.Mathlib.Omega.{arith}
 use lib.ListN.{length, getD, set, length-set}
 use lib.Seq.{getD-set-same, getD-set-other}
 use Rattle.model.specs.Code.{syndrome}
-use Rattle.model.specs.Decoder.{State, change}
+use Rattle.model.specs.Decoder.{State, change, stateWeight}
 use Rattle.model.specs.Symbols.{sub, differ, count, weight, distance, Below, sumBelow, tabulate, subtractAt}
 use Rattle.theory.specs.Counting.{same-no, differ-iff, All, Distinct, count-mem, sum-off, distinct-count}
 use Rattle.theory.specs.Modulo.{sub-lt, sub-self, sub-zero-eq, sub-shift}
-use Rattle.theory.specs.Steps.{checkSum, Sized, stateWeight}
+use Rattle.theory.specs.Steps.{checkSum, Sized}
 
 -- ---- pages
 

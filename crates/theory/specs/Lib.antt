@@ -19,6 +19,7 @@ pub mod Runs
 pub mod Schedule
 pub mod Decoding
 pub mod Moments
+pub mod PassCalls
 pub mod Integers
 pub mod Margins
 pub mod Statements

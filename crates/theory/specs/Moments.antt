@@ -7,13 +7,13 @@ use native.Mathlib.Nat.{mod-eq-of-lt}
 use native.Mathlib.Omega.{arith}
 use lib.ListN.{length, getD}
 use lib.Seq.{ext-getD}
-use Rattle.model.specs.Decoder.{State, Visit, changes, visit, after, changeCount, pass, passes}
+use Rattle.model.specs.Decoder.{State, Visit, changes, visit, after, changeCount, pass, passes, stateWeight}
 use Rattle.model.specs.Symbols.{bit, add, sub, tabulate, addEach, subEach}
 use Rattle.theory.specs.Counting.{zeros-weight}
 use Rattle.theory.specs.Distance.{length-tabulate, getD-tabulate, checkSymbolsOf, Received, Tied}
 use Rattle.theory.specs.Modulo.{by-eq, sub-add}
 use Rattle.theory.specs.Runs.{changes-append}
-use Rattle.theory.specs.Steps.{checkSum, Sized, stateWeight}
+use Rattle.theory.specs.Steps.{checkSum, Sized}
 
 -- ---- the three buffers, by the received page x ++ y
 

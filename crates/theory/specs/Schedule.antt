@@ -10,7 +10,7 @@ use lib.ListN.{length}
 use Rattle.model.specs.Decoder.{State, after, changeCount, pass, isIdle, Limit, none, under, allows, thresholdsRun, firstSmaller}
 use Rattle.model.specs.Demand.{smallest}
 use Rattle.model.specs.Symbols.{choose, count}
-use Rattle.theory.specs.Counting.{is-true, same-yes, same-no, count-nil, count-cons}
+use Rattle.theory.specs.Counting.{is-true, same-yes, same-no, count-nil, count-cons, All}
 use Rattle.theory.specs.Falling.{choose-case}
 
 -- ---- the smallest of a list
@@ -57,6 +57,15 @@ module _ (q : ℕ) (checks : ℕ → List ℕ) (js : List ℕ) where
       choose-case (λ b us. length us ≤ suc (length ts)) (allows limit t)
       (t ∷ thresholdsRun q checks js (limitAfter t st) ts st′) (thresholdsRun q checks js limit ts st)
       (λ w. omega (arith, runs-few (limitAfter t st) ts st′)) (λ w. omega (arith, runs-few limit ts st))
+
+  -- those run are of the list
+  pub runs-of : (P : ℕ → Type 0) (limit : Limit) (ts : List ℕ) → All P ts → (st : State) → All P (thresholdsRun q checks js limit ts st)
+  unfolding thresholdsRun
+  runs-of P limit [] a st = tt
+  runs-of P limit (t ∷ ts) a st =
+      let st′ : State = after q checks (pass js t) st in
+      choose-case (λ b us. All P us) (allows limit t) (t ∷ thresholdsRun q checks js (limitAfter t st) ts st′) (thresholdsRun q checks js limit ts st)
+      (λ w. (a .0, runs-of P (limitAfter t st) ts (a .1) st′)) (λ w. runs-of P limit ts (a .1) st)
 
   -- a threshold that the limit allows is run, where none of the list is smaller
   least-run : (h : ℕ) (limit : Limit) (ts : List ℕ) (st : State) → allows limit h ≡ true → ((x : ℕ) → 0 < count x ts → h ≤ x) → 0 < count h ts

@@ -1,8 +1,8 @@
 -- The statements that a reviewer reads. Their proofs stand in the other files.
 use mathlib.Core.Path.{_≡_, refl, ap, sym, _∙_, subst}
 use mathlib.Core.Logic.{_≢_, _↔_}
-use mathlib.Core.Bool.{Bool, true, _&&_}
-use mathlib.Core.List.{List, [], _∷_, _++_}
+use mathlib.Core.Bool.{Bool, true, false, _&&_}
+use mathlib.Core.List.{List, [], _∷_, _++_, map}
 use Prim.Native.Nat.{ℕ, suc, _+_, _%_, _≤_, _<_}
 use native.Mathlib.Nat.{one-mul}
 use native.Mathlib.Omega.{arith}
@@ -10,26 +10,28 @@ use lib.Dec.{eqb}
 use lib.IntN.{pos, negℤ, _-ℤ_}
 use lib.ListN.{length, getD, length-map}
 use lib.Signed.{_≤ℤ_}
-use Rattle.model.specs.Calls.{firstThatApplies, decodeFits, tableAnswer, decodeAnswer}
+use Rattle.model.specs.Bytes.{wordOf, cPassOutcome}
+use Rattle.model.specs.Calls.{firstThatApplies, stateFits, decodeFits, tableAnswer, decodeAnswer, openAnswer, passAnswer, outcome, openOutcome, Passed, passedState, passedChanges, passOutcome, PassCall, fitting, called, afterCalls, callChanges, notRefused, callRun}
 use Rattle.model.specs.Code.{Code, codeOf, dataCount, checkCount, pageLength, checksEach, checksBy, checksOf, checkSumBy, checkSymbol, checkSymbols, codeWord, dataOf, receivedChecks, SelfOrthogonal, differencesBy, differences, allDifferent}
-use Rattle.model.specs.Decoder.{State, Visit, estimates, changes, visit, after, passes, dataSymbols, opened, passesOf, run, distanceTo, Counts, decodedState, decodedCounts, marginsOf, pass, isIdle, none, thresholdsRun, firstSmaller}
-use Rattle.model.specs.Demand.{VisitFalls, Falls, RunFalls, DecodeFalls, Recovers, DecodeRecovers, smallest}
+use Rattle.model.specs.Decoder.{State, Visit, estimates, changes, visit, after, changeCount, passes, dataSymbols, opened, passesOf, run, distanceTo, Counts, decodedState, decodedCounts, marginsOf, pass, isIdle, none, thresholdsRun, firstSmaller, stateWeight}
+use Rattle.model.specs.Demand.{VisitFalls, Falls, RunFalls, DecodeFalls, PassFalls, Recovers, DecodeRecovers, smallest}
 use Rattle.model.specs.Limits.{TableLimits, Limits}
 use Rattle.model.specs.Symbols.{choose, count, tabulate, addEach, subEach}
 use Rattle.model.specs.Vote.{leader, leadCount, nextCount, votes, margin}
-use Rattle.theory.specs.Answers.{table-accepted, table-accepts, table-usable, Taken, decode-taken}
+use Rattle.theory.specs.Answers.{table-accepted, table-accepts, table-usable, Opens, Taken, decode-taken, decode-opens, open-taken, pass-taken}
 use Rattle.theory.specs.Branches.{orthogonal-differences}
 use Rattle.theory.specs.Codes.{code-incidence, check-symbol, check-symbols}
-use Rattle.theory.specs.Counting.{All, length-symbolsAt}
-use Rattle.theory.specs.Decoding.{code-falls, code-received, code-sized, code-tied, code-distance, code-recovers, code-minima}
+use Rattle.theory.specs.Counting.{eqb-yes, eqb-no, All, length-symbolsAt}
+use Rattle.theory.specs.Decoding.{code-falls, code-received, code-opened-sized, code-sized, code-tied, code-distance, code-recovers, code-minima}
 use Rattle.theory.specs.Distance.{length-tabulate, tabulate-ext}
-use Rattle.theory.specs.Falling.{InRange, visit-no, weight-falls, falls-at}
+use Rattle.theory.specs.Falling.{InRange, visit-no, weight-falls, falls-spent, falls-at}
 use Rattle.theory.specs.Margins.{margin-low, margin-high, margin-top, margin-bottom, other-zero, margin-stays, margin-at}
 use Rattle.theory.specs.Moments.{result-is, syndrome-is, changes-few, weight-few}
 use Rattle.theory.specs.OneBranch.{firstTests, run-all, checks-all, check-all, differences-all, answer-all}
-use Rattle.theory.specs.Runs.{range-passes, symbols-range, symbols-visited}
-use Rattle.theory.specs.Schedule.{smallest-in, smallest-least, runs-few, smallest-run, followed, minima}
-use Rattle.theory.specs.Steps.{checkSum, SymbolsBelow, Sized, stateWeight}
+use Rattle.theory.specs.PassCalls.{calls-made, takenOf, calls-taken, taken-all, all-small}
+use Rattle.theory.specs.Runs.{range-pass, range-passes, symbols-range, symbols-visited}
+use Rattle.theory.specs.Schedule.{smallest-in, smallest-least, runs-few, runs-of, smallest-run, followed, minima}
+use Rattle.theory.specs.Steps.{checkSum, SymbolsBelow, Sized}
 use Rattle.theory.specs.Tables.{orthogonal-test}
 use Rattle.theory.specs.Voting.{leader-ahead, lead-max, next-max, next-least, leader-mem}
 
@@ -265,3 +267,125 @@ smallest-means ts h = record { one = smallest-in ts h; least = smallest-least ts
 pub clean-passes : (c : Code) (page : List ℕ) → Received c page → distanceTo c page (opened c page) ≡ 0 → (thresholds : List ℕ)
     → passesOf c thresholds page ≡ minima none thresholds
 clean-passes c page w z ts = code-minima c (table-usable c (w .0)) page (w .1) z ts
+
+-- ---- 7. open and pass, called for themselves (N5)
+
+-- what open leaves where its number is 0
+opened-left : (c : Code) (page : List ℕ) (lent : State) → openOutcome c page lent .number ≡ 0 → openOutcome c page lent .left ≡ opened c page
+unfolding openOutcome outcome
+opened-left c page lent e = rw (eqb-yes _ 0 e) refl
+
+-- A list of pass calls, each a threshold and whether its buffers fit, from a state `start` on, where `page` was opened. What the calls leave and the
+-- changes that they hand back, one call after the other, are those of the visits of the run, in which a refused call has none. The run falls, each
+-- visit in its place (visit-falls), and its total holds. After the calls, and so after every call, as any first calls of a list are a list,
+-- result = received data + D, S = the code word's checks − the received checks, and the distance is the number of nonzero symbols of S and D.
+-- Where some call was not refused, the smallest threshold of those bounds the recovery. Refused are the calls whose buffers do not fit or whose
+-- threshold is above 32, and no others.
+pub record CallsRun (c : Code) (page : List ℕ) (calls : List PassCall) (start : State) : Type 0 where
+  pub left : afterCalls c calls start ≡ after (c .q) (checksOf c) (callRun c calls start) (opened c page)
+  pub counted : callChanges c calls start ≡ changeCount (c .q) (checksOf c) (callRun c calls start) (opened c page)
+  pub falls : RunFalls c page (callRun c calls start)
+  pub moment : Moment c page (afterCalls c calls start)
+  pub recovers : 0 < length (notRefused c calls start) → Recovers c (smallest (notRefused c calls start)) page (afterCalls c calls start .result)
+  pub refused : notRefused c calls start ≡ takenOf calls
+
+-- It holds of any calls on what open left.
+pub calls-run : (c : Code) (page : List ℕ) (lent : State) → openOutcome c page lent .number ≡ 0 → (calls : List PassCall)
+    → CallsRun c page calls (openOutcome c page lent .left)
+unfolding openOutcome outcome
+calls-run c page lent e calls = subst (CallsRun c page calls) (sym (opened-left c page lent e)) (record {
+  left = same;
+  counted = calls-made c calls st .1;
+  falls = visits-fall c page w vs r;
+  moment = subst (Moment c page) (sym same) (every-moment c page w vs r);
+  recovers = (λ n. rw same (passes-recover c page w (dataSymbols c) (symbols-range c) (symbols-visited c) made (smallest made) (smallest-in made n)));
+  refused = calls-taken c (o .0) calls st (code-opened-sized c (o .1 .usable) page (o .1 .whole));
+})
+  where
+    o : (tableAnswer c ≡ 0) × Opens c page lent
+    o = open-taken c page lent e
+
+    w : Received c page
+    w = (o .0, o .1 .whole)
+
+    st : State
+    st = opened c page
+
+    made : List ℕ
+    made = notRefused c calls st
+
+    vs : List Visit
+    vs = callRun c calls st
+
+    r : InRange (dataCount c) vs
+    r = range-passes (dataCount c) (dataSymbols c) (symbols-range c) made
+
+    same : afterCalls c calls st ≡ after (c .q) (checksOf c) vs st
+    same = calls-made c calls st .0
+
+-- A refused call alters nothing and hands back no change.
+pub call-refused : (c : Code) (p : PassCall) (st : State) → called c p st .number ≢ 0 → _≡_ {A = Passed ℕ} (called c p st .left) (record { state = st; changes = 0 })
+unfolding passOutcome outcome
+call-refused c p st n = rw (eqb-no _ 0 n) refl
+
+-- The C form is this call, with its 4 bytes among the buffers that must fit: the same number, the same buffers, and its changes as bytes.
+pub record CPass (c : Code) (threshold : ℕ) (lent : State) (changes : List ℕ) : Type 0 where
+  pub number-of : cPassOutcome c threshold lent changes .number ≡ passOutcome c (eqb (length changes) 4) threshold lent .number
+  pub state-of : cPassOutcome c threshold lent changes .left .state ≡ passOutcome c (eqb (length changes) 4) threshold lent .left .state
+  pub changes-of : cPassOutcome c threshold lent changes .number ≡ 0
+      → cPassOutcome c threshold lent changes .left .changes ≡ wordOf (passOutcome c (eqb (length changes) 4) threshold lent .left .changes)
+
+pub c-pass : (c : Code) (threshold : ℕ) (lent : State) (changes : List ℕ) → CPass c threshold lent changes
+unfolding cPassOutcome passOutcome outcome
+c-pass c t lent bytes = record { number-of = refl; state-of = go (eqb (passAnswer c (eqb (length bytes) 4 && stateFits c lent) t lent) 0); changes-of = (λ e. rw (eqb-yes _ 0 e) refl) }
+  where
+    go : (b : Bool)
+        → choose {A = Passed (List ℕ)} b (record { state = passedState c t lent; changes = wordOf (passedChanges c t lent) }) (record { state = lent; changes = bytes }) .state
+        ≡ choose {A = Passed ℕ} b (record { state = passedState c t lent; changes = passedChanges c t lent }) (record { state = lent; changes = 0 }) .state
+    go true = refl
+    go false = refl
+
+-- On buffers of any content in range: where a pass answers 0, each change of it lowers the nonzero symbols of S and D together by more than its
+-- threshold, and every other visit leaves the three buffers.
+pub pass-falls : (c : Code) (others : Bool) (threshold : ℕ) (lent : State) → passAnswer c (others && stateFits c lent) threshold lent ≡ 0 → PassFalls c threshold lent
+pass-falls c others t lent e =
+    let p = pass-taken c others t lent e .1 in
+    let f = weight-falls-on c (p .table) lent (p .sized) (pass (dataSymbols c) t) (range-pass (dataCount c) (dataSymbols c) t (symbols-range c)) in
+    record { falls = f; total = falls-spent (c .q) (checksOf c) stateWeight (pass (dataSymbols c) t) lent f }
+
+-- "Decode becomes these two and answers as before" (N5): where decode answers 0, open answers 0; decode's result, S, D and changes are those of
+-- the passes of its schedule, called one after the other on what open left, none of them refused; and its passes are their number.
+pub record Split (c : Code) (page thresholds : List ℕ) (start : State) (calls : List PassCall) : Type 0 where
+  pub taken : notRefused c calls start ≡ passesOf c thresholds page
+  pub state-is : decodedState c thresholds page ≡ afterCalls c calls start
+  pub changes-are : decodedCounts c thresholds page .changes ≡ callChanges c calls start
+  pub passes-are : decodedCounts c thresholds page .passes ≡ length calls
+
+pub decode-split : (c : Code) (others : Bool) (page thresholds : List ℕ) (lent : State) → decodeAnswer c (others && decodeFits c page lent) page thresholds ≡ 0
+    → (openOutcome c page lent .number ≡ 0) × Split c page thresholds (openOutcome c page lent .left) (map fitting (passesOf c thresholds page))
+unfolding openOutcome outcome decodedState decodedCounts run passesOf
+decode-split c others page ts lent e = (
+  o,
+  subst (λ (st : State). Split c page ts st calls) (sym (opened-left c page lent o)) (record {
+    taken = all;
+    state-is = sym (calls-made c calls st .0 ∙ ap (λ (us : List ℕ). after (c .q) (checksOf c) (passes (dataSymbols c) us) st) all);
+    changes-are = sym (calls-made c calls st .1 ∙ ap (λ (us : List ℕ). changeCount (c .q) (checksOf c) (passes (dataSymbols c) us) st) all);
+    passes-are = sym (length-map (passesOf c ts page) fitting);
+  }),
+)
+  where
+    o : openAnswer c page lent ≡ 0
+    o = decode-opens c others page ts lent e .1
+
+    st : State
+    st = opened c page
+
+    calls : List PassCall
+    calls = map fitting (passesOf c ts page)
+
+    all : notRefused c calls st ≡ passesOf c ts page
+    all =
+        let t = open-taken c page lent o in
+        calls-taken c (t .0) calls st (code-opened-sized c (t .1 .usable) page (t .1 .whole))
+        ∙ taken-all (passesOf c ts page)
+        (runs-of (c .q) (checksOf c) (dataSymbols c) (λ t. t < 33) none ts (all-small 33 ts (decode-taken c others page ts lent e .small)) st)

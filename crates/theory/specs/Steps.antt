@@ -6,7 +6,7 @@ use native.Mathlib.Omega.{arith}
 use lib.ListN.{length, getD, set, length-set}
 use lib.Seq.{getD-set-other}
 use Rattle.model.specs.Code.{syndrome}
-use Rattle.model.specs.Decoder.{State, estimates, change}
+use Rattle.model.specs.Decoder.{State, estimates, change, stateWeight}
 use Rattle.model.specs.Symbols.{sub, differ, count, weight, Below, sumBelow, symbolsAt, subtractAt}
 use Rattle.model.specs.Vote.{otherCount}
 use Rattle.theory.specs.Counting.{same-differ, differ-iff, All, Distinct, zeros-weight, weight-set, count-mem}
@@ -62,10 +62,6 @@ change-sized q m k pos is j h st z = record {
 }
 
 -- ---- the weight of a state, and what a subtraction does to it
-
--- the nonzero symbols of S and D together
-unfoldable pub stateWeight : State → ℕ
-stateWeight st = weight (st .difference) + weight (st .syndrome)
 
 unfoldable pub lessEach : ℕ → ℕ → List ℕ → List ℕ
 lessEach q h [] = []

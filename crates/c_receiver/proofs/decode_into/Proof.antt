@@ -12,7 +12,7 @@ use Rattle.model.specs.Code.{Code}
 use Rattle.model.specs.Decoder.{State, stateBy, marginsOf}
 use Rattle.params.specs.Codes.{codeBy}
 use Rattle.params.specs.Sizes.{sizes-fit}
-use Rattle.theory.specs.Answers.{and-true, eqb-true, decode-others}
+use Rattle.theory.specs.Answers.{and-true, eqb-true, decode-opens}
 use Rattle.theory.specs.Outcomes.{left-as-lent, left-as-done, outcome-number, outcome-lent, outcome-done}
 use Rattle.theory.specs.Statements.{decode-falls}
 use Rattle.receiver.specs.Received.{Ran, ranOutcome}
@@ -64,7 +64,7 @@ lengths c =
     let p = decode (c .before) in
     let a = start p .args in
     let f = and-true (eqb (length (a .margins .now)) (4 * (a .code .b * a .code .k))) (eqb (length (a .counts .now)) 16)
-    (decode-others _ (others (start p)) (a .page .now) (a .thresholds .now) (stateBy (a .result .now) (a .syndrome .now) (a .difference .now)) (sym (number p) ∙ c .if1 .left)) in
+    (decode-opens _ (others (start p)) (a .page .now) (a .thresholds .now) (stateBy (a .result .now) (a .syndrome .now) (a .difference .now)) (sym (number p) ∙ c .if1 .left) .0) in
     (eqb-true (length (a .margins .now)) (4 * (a .code .b * a .code .k)) (f .0), eqb-true (length (a .counts .now)) 16 (f .1))
 
 same-length : tie.Need-same-length

@@ -7,10 +7,9 @@ use native.Mathlib.Omega.{arith}
 use lib.IntN.{pos, _-ℤ_}
 use lib.ListN.{take}
 use lib.Seq.{length-take-le}
-use Rattle.model.specs.Decoder.{stateBy}
+use Rattle.model.specs.Decoder.{stateBy, stateWeight}
 use Rattle.model.specs.Symbols.{tabulate}
 use Rattle.params.specs.Codes.{codeBy}
-use Rattle.theory.specs.Steps.{stateWeight}
 use Rattle.margins.specs.Margins.{margins-firm}
 use Rattle.margins.proofs.fill.Statement.{statement}
 use Rattle.margins.proofs.fill.Tie as tie

@@ -8,10 +8,9 @@ use lib.IntN.{pos, _-ℤ_}
 use lib.ListN.{take}
 use lib.Seq.{length-take-le}
 use Rattle.model.specs.Bytes.{marginBytes}
-use Rattle.model.specs.Decoder.{stateBy}
+use Rattle.model.specs.Decoder.{stateBy, stateWeight}
 use Rattle.model.specs.Symbols.{tabulate}
 use Rattle.params.specs.Codes.{codeBy}
-use Rattle.theory.specs.Steps.{stateWeight}
 use Rattle.margins.specs.Margins.{margins-firm}
 use Rattle.octets.proofs.put_margins.Statement.{statement}
 use Rattle.octets.proofs.put_margins.Tie as tie

@@ -11,7 +11,7 @@ use Rattle.model.specs.Code.{Code}
 use Rattle.model.specs.Decoder.{State, stateBy, marginsOf}
 use Rattle.params.specs.Codes.{codeBy}
 use Rattle.params.specs.Sizes.{sizes-fit}
-use Rattle.theory.specs.Answers.{eqb-true, decode-others}
+use Rattle.theory.specs.Answers.{eqb-true, decode-opens}
 use Rattle.theory.specs.Outcomes.{left-as-lent, left-as-done, outcome-number, outcome-lent, outcome-done}
 use Rattle.receiver.specs.Received.{Ran, ranOutcome}
 use Rattle.receiver.proofs.decode_into.Statement.{statement}
@@ -78,7 +78,7 @@ fill-requires c κs =
     let lent : State = stateBy (a .result .now) (a .syndrome .now) (a .difference .now) in (
       p .decode-with .ensures .1 .0 (done .if1 .left),
       eqb-true (length (a .margins .now)) (a .code .b * a .code .k)
-          (decode-others _ (eqb (length (a .margins .now)) (a .code .b * a .code .k)) (a .page .now) (a .thresholds .now) lent (sym (number p) ∙ done .if1 .left)),
+          (decode-opens _ (eqb (length (a .margins .now)) (a .code .b * a .code .k)) (a .page .now) (a .thresholds .now) lent (sym (number p) ∙ done .if1 .left) .0),
     )
 
 same-length-5 : tie.Need-same-length-5

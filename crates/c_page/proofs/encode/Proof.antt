@@ -1,4 +1,4 @@
--- `qmtd_encode`: the outcome by the positions read is that by the table's, and so is the code word, in either buffer.
+-- `encode`: the outcome by the positions read is that by the table's, and so is the code word, in either buffer.
 use mathlib.Core.Path.{_≡_, sym, _∙_}
 use mathlib.Core.List.{List}
 use Prim.Native.Nat.{ℕ}
@@ -11,8 +11,8 @@ use Rattle.model.specs.Demand.{Encodes}
 use Rattle.octets.specs.Positions.{kept}
 use Rattle.octets.specs.Reads.{encode-read, encodes-read}
 use borrow.Author.Needs.{needs}
-use Rattle.qmtd.proofs.qmtd_encode.Statement.{statement}
-use Rattle.qmtd.proofs.qmtd_encode.Tie as tie
+use Rattle.c_page.proofs.encode.Statement.{statement}
+use Rattle.c_page.proofs.encode.Tie as tie
 
 -- what the contract says of the number r and the page that is left, x, with positions ps
 abbrev Holds : tie.Start → List ℕ → ℕ → List ℕ → Type 0
@@ -78,8 +78,8 @@ returns-2 c =
     let r = p .before .before .before .before in
     whole (r .before .before .before .before .before .before) _ (r .read-positions2 .ensures .1) _ _ (p .encode2 .ensures)
 
-pub qmtd-encode-spec : {M : Type 1} → statement M
-qmtd-encode-spec =
+pub encode-spec : {M : Type 1} → statement M
+encode-spec =
     tie.close
     (tie.spec
     slice-aggregate-read-positions

@@ -1,4 +1,4 @@
--- `qmtd_check_table`: the answer by the positions read is that by the table's, in either buffer.
+-- `check_table`: the answer by the positions read is that by the table's, in either buffer.
 use mathlib.Core.Path.{_≡_, sym, _∙_}
 use mathlib.Core.List.{List}
 use Prim.Native.Nat.{ℕ}
@@ -10,8 +10,8 @@ use Rattle.model.specs.Code.{codeOf}
 use Rattle.octets.specs.Positions.{kept}
 use Rattle.octets.specs.Reads.{table-read}
 use borrow.Author.Needs.{needs}
-use Rattle.qmtd.proofs.qmtd_check_table.Statement.{statement}
-use Rattle.qmtd.proofs.qmtd_check_table.Tie as tie
+use Rattle.c_page.proofs.check_table.Statement.{statement}
+use Rattle.c_page.proofs.check_table.Tie as tie
 
 -- what the contract says of the number r, with positions ps
 abbrev Holds : tie.Start → List ℕ → ℕ → Type 0
@@ -61,8 +61,8 @@ returns-2 c =
     let r = c .before .before .before in
     whole (r .before .before .before .before) _ (r .read-positions2 .ensures .1) _ (c .check-table2 .ensures)
 
-pub qmtd-check-table-spec : {M : Type 1} → statement M
-qmtd-check-table-spec =
+pub check-table-spec : {M : Type 1} → statement M
+check-table-spec =
     tie.close
     (tie.spec
     slice-aggregate-read-positions

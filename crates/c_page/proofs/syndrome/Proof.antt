@@ -1,4 +1,4 @@
--- `qmtd_syndrome`: the outcome by the positions read is that by the table's, in either buffer.
+-- `syndrome`: the outcome by the positions read is that by the table's, in either buffer.
 use mathlib.Core.Path.{_≡_, sym, _∙_}
 use mathlib.Core.List.{List}
 use Prim.Native.Nat.{ℕ}
@@ -10,8 +10,8 @@ use Rattle.model.specs.Code.{codeOf}
 use Rattle.octets.specs.Positions.{kept}
 use Rattle.octets.specs.Reads.{syndrome-read}
 use borrow.Author.Needs.{needs}
-use Rattle.qmtd.proofs.qmtd_syndrome.Statement.{statement}
-use Rattle.qmtd.proofs.qmtd_syndrome.Tie as tie
+use Rattle.c_page.proofs.syndrome.Statement.{statement}
+use Rattle.c_page.proofs.syndrome.Tie as tie
 
 -- what the contract says of the outcome o, with positions ps
 abbrev Holds : tie.Start → List ℕ → Outcome (List ℕ) → Type 0
@@ -69,8 +69,8 @@ returns-2 c =
     let r = p .before .before .before .before in
     whole (r .before .before .before .before .before .before) _ (r .read-positions2 .ensures .1) _ (p .syndrome3 .ensures)
 
-pub qmtd-syndrome-spec : {M : Type 1} → statement M
-qmtd-syndrome-spec =
+pub syndrome-spec : {M : Type 1} → statement M
+syndrome-spec =
     tie.close
     (tie.spec
     slice-aggregate-read-positions

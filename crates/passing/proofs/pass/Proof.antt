@@ -1,0 +1,65 @@
+-- `pass`: whatever k and b are, the number of data symbols fits; the rest is `pass_with`'s.
+use borrow.Author.Needs.{needs}
+use native.Mathlib.Omega.{arith}
+use Rattle.params.specs.Sizes.{sizes-fit}
+use Rattle.passing.proofs.pass.Statement.{statement}
+use Rattle.passing.proofs.pass.Tie as tie
+
+data-count-requires : tie.Need-data-count-requires
+data-count-requires c κs =
+    let a = c .before .before .before .before .args in
+    omega (arith, sizes-fit (a .k) (a .b) (omega arith) (omega arith))
+
+slice-aggregate-pass-with : tie.Need-slice-aggregate-pass-with
+slice-aggregate-pass-with c = search needs
+
+pass-with-requires : tie.Need-pass-with-requires
+pass-with-requires c κs = search needs
+
+same-length : tie.Need-same-length
+same-length c = search needs
+
+same-length-2 : tie.Need-same-length-2
+same-length-2 c = search needs
+
+same-length-3 : tie.Need-same-length-3
+same-length-3 c = search needs
+
+returns : tie.Need-returns
+returns c = search needs
+
+slice-aggregate-pass-with-2 : tie.Need-slice-aggregate-pass-with-2
+slice-aggregate-pass-with-2 c = search needs
+
+pass-with-requires-2 : tie.Need-pass-with-requires-2
+pass-with-requires-2 c κs = search needs
+
+same-length-4 : tie.Need-same-length-4
+same-length-4 c = search needs
+
+same-length-5 : tie.Need-same-length-5
+same-length-5 c = search needs
+
+same-length-6 : tie.Need-same-length-6
+same-length-6 c = search needs
+
+returns-2 : tie.Need-returns-2
+returns-2 c = search needs
+
+pub pass-spec : {M : Type 1} → statement M
+pass-spec =
+    tie.close
+    (tie.spec
+    data-count-requires
+    slice-aggregate-pass-with
+    pass-with-requires
+    same-length
+    same-length-2
+    same-length-3
+    returns
+    slice-aggregate-pass-with-2
+    pass-with-requires-2
+    same-length-4
+    same-length-5
+    same-length-6
+    returns-2)

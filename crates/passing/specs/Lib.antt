@@ -1,0 +1,2 @@
+-- What the proofs of the call pass cite.
+pub mod Once
