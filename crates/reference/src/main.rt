@@ -507,10 +507,11 @@ fn answer_is_due(got: Explained, record: &[u8], answer: Piece) -> bool {
         && got.leader == number_at(record, skip(record, at, 4))
         && got.lead == number_at(record, skip(record, at, 8))
         && got.next == number_at(record, skip(record, at, 12))
-        && got.bits == long_of(
-            number_at(record, skip(record, at, 16)),
-            number_at(record, skip(record, at, 20)),
-        )
+        && got.bits
+            == long_of(
+                number_at(record, skip(record, at, 16)),
+                number_at(record, skip(record, at, 20)),
+            )
 }
 
 // An explanation only reads the three buffers.
