@@ -4,7 +4,8 @@
 #   make lib TARGET=..          build/TARGET/libqmtd.a for another processor, one of targets/list; TARGET_FLAGS=.. adds
 #                               flags for clang, as -Os or -mfloat-abi=hard
 #   make demo                   prove crate by crate, build, and run the charger example
-#   make screen                 the bench screen example: a page after each pass, then coloured by its margins
+#   make screen                 the bench screen example: a page after each pass, then coloured by its margins, and why a
+#                               symbol of it is left
 #   make board                  the charger example on an emulated Cortex-M4 board
 #   make test-c                 the C tests over the archive for x86-64
 #   make test-targets           the archives for the other processors: all built, four run under emulation

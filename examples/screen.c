@@ -1,7 +1,8 @@
-/* screen.c - a bench screen: opens a damaged page and shows it after each pass, then decodes it and prints its data
- * symbols by how firmly they stand.
+/* screen.c - a bench screen: opens a damaged page and shows it after each pass, then decodes it, prints its data
+ * symbols by how firmly they stand, and tells of one of them why it is left, or that a visit would change it.
  *
- *   screen [REPLACED]    how many of the page's 512 symbols the lead replaces; 80 where it is not given
+ *   screen [REPLACED [SYMBOL]]    how many of the page's 512 symbols the lead replaces, 80 where it is not given; and
+ *                                 the number of a data symbol, 0 to 255: where it is not given the weakest, by margin
  *
  * Colours go to a terminal; where the output is none, or NO_COLOR is set, the marks alone tell.
  * Build: cc -std=c99 -Iinclude examples/screen.c build/x86-64/libqmtd.a */
@@ -19,7 +20,7 @@ static const uint8_t thresholds[] = {1, 0, 0, 0, 0, 0, 0, 0};
 
 static uint8_t sent[K], page[QMTD_PAGE_LEN(K, B)];
 static uint8_t result[K], syndrome[K], difference[K], changes[QMTD_CHANGES_LEN];
-static uint8_t margins[QMTD_MARGINS_LEN(K, B)], counts[QMTD_COUNTS_LEN];
+static uint8_t margins[QMTD_MARGINS_LEN(K, B)], counts[QMTD_COUNTS_LEN], answer[QMTD_ANSWER_LEN];
 
 /* How a symbol stands: firm where its margin is above J/2, weak where another value has at least as many votes as 0. */
 enum standing { FIRM, DOUBTFUL, WEAK, STANDINGS };
@@ -185,18 +186,81 @@ static void print_legend(int colours)
                shown[s].name, no_colour(colours), shown[s].margin, all[s], wrong[s]);
 }
 
+/* The first of the symbols with the smallest margin. */
+static unsigned weakest(void)
+{
+    unsigned at = 0;
+    for (unsigned j = 1; j < K; j++)
+        if (qmtd_margin(margins, j) < qmtd_margin(margins, at))
+            at = j;
+    return at;
+}
+
+/* What a visit with the list's last threshold would do to a symbol of the buffers as they stand, why, and which of the
+ * symbol's estimates speak for the commonest value. Was the call taken? */
+static int explain(const char *when, unsigned symbol)
+{
+    const unsigned threshold = thresholds[sizeof thresholds - 1];
+    if (qmtd_explain(Q, K, B, table, sizeof table, threshold, symbol, result, K, syndrome, K, difference, K,
+                     answer, sizeof answer) != QMTD_OK)
+        return 0;
+    const unsigned h0 = number_at(answer + 4), m0 = number_at(answer + 8), m1 = number_at(answer + 12);
+    unsigned left = m0;
+    printf("%s it is %u. Of %d votes %u has %u, the next value %u. A visit with threshold %u\n", when, result[symbol],
+           J + 1, h0, m0, m1, threshold);
+    switch (number_at(answer)) {
+    case QMTD_GROUND_NO_LEAD:
+        printf("  leaves it: the lead is not above the threshold.\n");
+        break;
+    case QMTD_GROUND_ZERO:
+        printf("  leaves it: 0 leads, so that nothing is to be subtracted.\n");
+        break;
+    default:
+        printf("  would change it to %u.\n", (result[symbol] + Q - h0) % Q);
+    }
+    printf("  For %u speak:", h0);
+    for (unsigned n = 0; n <= J; n++) {
+        if ((answer[16 + n / 8] >> n % 8 & 1) == 0)
+            continue;
+        if (n == 0)
+            printf(" the difference");
+        else
+            printf(" check %u", (symbol + table[2 * n - 2]) % K);
+        printf(--left > 0 ? "," : "\n");
+    }
+    return 1;
+}
+
+/* A symbol as the decode handed it back, then as it was received. Were all calls taken? */
+static int explain_symbol(unsigned symbol)
+{
+    printf("\nSymbol %u, %d C and charge %u/16:\n", symbol, 5 * (int)(symbol / COLUMNS) - 20, symbol % COLUMNS);
+    return explain("After the passes", symbol) &&
+           qmtd_open(Q, K, B, table, sizeof table, page, sizeof page, result, K, syndrome, K, difference, K) ==
+               QMTD_OK &&
+           explain("As received", symbol);
+}
+
+/* The number that an argument is; `most` + 1 where it is none up to `most`. */
+static unsigned argument(const char *text, unsigned most)
+{
+    char *end;
+    unsigned long number = strtoul(text, &end, 10);
+    return end == text || *end != '\0' || number > most ? most + 1 : (unsigned)number;
+}
+
 int main(int argc, char **argv)
 {
-    char *end = NULL;
-    unsigned long replaced = argc > 1 ? strtoul(argv[1], &end, 10) : 80;
-    if (replaced > sizeof page || (end != NULL && (end == argv[1] || *end != '\0'))) {
-        fprintf(stderr, "screen [REPLACED], 0 to %u\n", (unsigned)sizeof page);
+    unsigned replaced = argc > 1 ? argument(argv[1], sizeof page) : 80;
+    unsigned symbol = argc > 2 ? argument(argv[2], K - 1) : 0;
+    if (argc > 3 || replaced > sizeof page || symbol >= K) {
+        fprintf(stderr, "screen [REPLACED [SYMBOL]], 0 to %u and 0 to %u\n", (unsigned)sizeof page, K - 1);
         return 2;
     }
     make_data();
     if (qmtd_encode(Q, K, B, table, sizeof table, sent, K, page, sizeof page) != QMTD_OK)
         return 1;
-    damage((unsigned)replaced);
+    damage(replaced);
     int colours = in_colour();
     if (!show_passes(colours))
         return 1;
@@ -205,7 +269,7 @@ int main(int argc, char **argv)
         return 1;
     print_page(colours);
     print_legend(colours);
-    printf("%lu symbols replaced; passes %u, changes %u, distance %u at the start, %u at the end\n", replaced,
+    printf("%u symbols replaced; passes %u, changes %u, distance %u at the start, %u at the end\n", replaced,
            number_at(counts), number_at(counts + 4), number_at(counts + 8), number_at(counts + 12));
-    return 0;
+    return explain_symbol(argc > 2 ? symbol : weakest()) ? 0 : 1;
 }

@@ -9,6 +9,8 @@
  *                                       qmtd_decode
  *   - opens a received page, and makes one pass of the decoder on it, so that the page can be looked at between passes
  *                                       qmtd_open, qmtd_pass
+ *   - tells why a pass would leave a data symbol of such a page, or that it would change it
+ *                                       qmtd_explain
  *
  * WHAT IT DOES NOT DO. Damage means that a symbol is replaced by another: lost or inserted symbols are not handled.
  * There are no convolutional codes, no soft decisions and no simulated channels. Decoding is no checksum: QMTD_OK says
@@ -30,7 +32,7 @@
  * with runs 0, 1, 4 and 0, 2, 7, so J = 3.
  *
  * RULES FOR ALL CALLS
- *   - Refusals are tested in the order 1, 2, 10, 3, 4, .. 9, and the first that applies is returned.
+ *   - Refusals are tested in the order 1, 2, 10, 3, 4, .. 9, 11, and the first that applies is returned.
  *   - A refused call changes no byte of the memory lent to it.
  *   - What is const is only read. What is lent for an answer is written whole when the call returns QMTD_OK; what it
  *     held before does not matter. Only qmtd_pass has buffers that it reads and writes.
@@ -62,7 +64,7 @@ extern "C" {
 /* ---- Version ---- */
 
 #define QMTD_VERSION_MAJOR 0
-#define QMTD_VERSION_MINOR 6
+#define QMTD_VERSION_MINOR 7
 #define QMTD_VERSION_PATCH 0
 #define QMTD_VERSION_NUMBER (QMTD_VERSION_MAJOR * 10000 + QMTD_VERSION_MINOR * 100 + QMTD_VERSION_PATCH)
 
@@ -90,6 +92,7 @@ extern "C" {
 #define QMTD_MARGINS_LEN(k, b) (4 * (b) * (k)) /* the margins of a decode, one for each data symbol */
 #define QMTD_COUNTS_LEN 16                     /* the counts of a decode */
 #define QMTD_CHANGES_LEN 4                     /* the changes of a pass */
+#define QMTD_ANSWER_LEN 24                     /* the answer of an explanation */
 #define QMTD_MAX_TABLE_LEN QMTD_TABLE_LEN(QMTD_MAX_B, QMTD_MAX_J) /* the longest table */
 #define QMTD_MAX_PAGE_LEN (QMTD_MAX_DATA + QMTD_MAX_K)            /* the longest page */
 
@@ -106,6 +109,13 @@ extern "C" {
 #define QMTD_BAD_SYMBOL 7          /* a symbol of the input is q or more (never at q = 256) */
 #define QMTD_BAD_THRESHOLD_COUNT 8 /* no threshold, or more than 64 */
 #define QMTD_BAD_THRESHOLD 9       /* a threshold above 32 */
+#define QMTD_BAD_SYMBOL_NUMBER 11  /* the number of a data symbol is b * k or more; tested after all others */
+
+/* ---- Grounds, of qmtd_explain ---- */
+
+#define QMTD_GROUND_NO_LEAD 1 /* left: no value leads by more than the threshold */
+#define QMTD_GROUND_ZERO 2    /* left: 0 leads by more than the threshold */
+#define QMTD_GROUND_CHANGE 3  /* a visit now would change the symbol */
 
 /* The compiler warns where a returned number is dropped. */
 #if defined(__GNUC__) || defined(__clang__)
@@ -240,6 +250,38 @@ uint32_t qmtd_pass(uint32_t q, uint32_t k, uint32_t b, const uint8_t *table, uin
                    uint8_t *syndrome, uint64_t syndrome_len,
                    uint8_t *difference, uint64_t difference_len,
                    uint8_t *changes, uint64_t changes_len);
+
+/* Tells by which ground a visit to one data symbol would act now, and which of the symbol's estimates speak for it.
+ * Alters nothing but the answer.
+ *   threshold   from 0 to 32
+ *   symbol      the number of a data symbol, from 0 to b * k - 1
+ *   result      read: b * k symbols
+ *   syndrome    read: k symbols
+ *   difference  read: b * k symbols. The three are as qmtd_open, a pass or qmtd_decode left them, or hold any symbols
+ *               below q.
+ *   answer      written whole: 24 bytes, four 32-bit numbers and one of 64 bits, low byte first:
+ *                 bytes  0 to  3  the ground, 1 to 3
+ *                 bytes  4 to  7  h0, the commonest of the J + 1 estimates; in a tie the smallest of the tied values
+ *                 bytes  8 to 11  m0, how many estimates equal h0
+ *                 bytes 12 to 15  m1, the largest count of any one other value, 0 if there is none
+ *                 bytes 16 to 23  which estimates equal h0, a bit for each, the lowest first: bit 0 is the difference at
+ *                                 the symbol, bit i + 1 the syndrome at the check of position i of its branch's run,
+ *                                 i from 0. m0 bits are set. Bit n is answer[16 + n / 8] >> n % 8 & 1; there are J + 1,
+ *                                 33 at most, and the bits above are 0.
+ *               The ground is the one by which a visit with this threshold would act on the buffers as they stand:
+ *                 1  m0 - m1 is not above the threshold: it would leave the symbol
+ *                 2  m0 - m1 is above the threshold and h0 is 0: it would leave the symbol
+ *                 3  m0 - m1 is above the threshold and h0 is not 0: it would subtract h0, as qmtd_decode says
+ *               A pass may find the symbol otherwise, after the changes that it makes before it comes there.
+ * Returns QMTD_OK, or 1 to 7, 9, 10 or 11: 6 also where answer_len is not 24, 7 for a symbol of any of the three
+ * buffers. Refused, answer is left as it was. */
+QMTD_MUST_USE
+uint32_t qmtd_explain(uint32_t q, uint32_t k, uint32_t b, const uint8_t *table, uint64_t table_len,
+                      uint32_t threshold, uint32_t symbol,
+                      const uint8_t *result, uint64_t result_len,
+                      const uint8_t *syndrome, uint64_t syndrome_len,
+                      const uint8_t *difference, uint64_t difference_len,
+                      uint8_t *answer, uint64_t answer_len);
 
 #ifdef __cplusplus
 }

@@ -1,7 +1,8 @@
 /* boundary.c - what the reference pages cannot hold: null pointers, the length of the counts, names in the header, the
  * reading of a margin, every length of a table with every b, unaligned memory, which passes of a list are run on the
  * page of case 7 and on clean ones, passes made one by one on the buffers of an opened page, refused ones between them,
- * and the promise that data comes back from a page with few enough symbols replaced. */
+ * symbols of such a page explained, each pass against the grounds of the symbols that it came to first, and the promise
+ * that data comes back from a page with few enough symbols replaced. */
 #include "qmtd.h"
 
 #include <stdio.h>
@@ -31,7 +32,7 @@ static const uint8_t table_3[QMTD_TABLE_LEN(3, 4)] = {0, 0, 1, 0, 4, 0, 13, 0,
 /* All that a call takes, in memory of exactly the right length; the calls below are lent parts of it. */
 static uint8_t data[K], page[QMTD_PAGE_LEN(K, 1)], thresholds[2];
 static uint8_t result[K], syndrome[K], difference[K], margins[QMTD_MARGINS_LEN(K, 1)], counts[QMTD_COUNTS_LEN];
-static uint8_t changes[QMTD_CHANGES_LEN];
+static uint8_t changes[QMTD_CHANGES_LEN], answer[QMTD_ANSWER_LEN];
 
 /* Data and page all 0, thresholds 0, 0; every lent answer full of 0xEE. */
 static void prepare(void)
@@ -45,6 +46,7 @@ static void prepare(void)
     memset(margins, 0xEE, sizeof margins);
     memset(counts, 0xEE, sizeof counts);
     memset(changes, 0xEE, sizeof changes);
+    memset(answer, 0xEE, sizeof answer);
 }
 
 static int all(const uint8_t *bytes, size_t len, uint8_t value)
@@ -59,7 +61,8 @@ static int answers_untouched(void)
 {
     return all(result, sizeof result, 0xEE) && all(syndrome, sizeof syndrome, 0xEE) &&
            all(difference, sizeof difference, 0xEE) && all(margins, sizeof margins, 0xEE) &&
-           all(counts, sizeof counts, 0xEE) && all(changes, sizeof changes, 0xEE);
+           all(counts, sizeof counts, 0xEE) && all(changes, sizeof changes, 0xEE) &&
+           all(answer, sizeof answer, 0xEE);
 }
 
 /* A decode of code A at q = 5 with the given table, page, thresholds and length of the counts. */
@@ -155,6 +158,24 @@ static void null_in_open_and_pass(void)
     EXPECT(answers_untouched() && all(page, sizeof page, 0));
 }
 
+static void null_in_explain(void)
+{
+    const uint8_t *t = table_a;
+    const size_t n = sizeof table_a;
+    prepare();
+
+    EXPECT(qmtd_explain(5, K, 1, NULL, 0, 0, 0, result, K, syndrome, K, difference, K, answer, 24) == QMTD_BAD_J);
+    EXPECT(qmtd_explain(5, K, 1, t, n, 0, 0, NULL, 0, syndrome, K, difference, K, answer, 24) == QMTD_BAD_LENGTH);
+    EXPECT(qmtd_explain(5, K, 1, t, n, 0, 0, result, K, NULL, 0, difference, K, answer, 24) == QMTD_BAD_LENGTH);
+    EXPECT(qmtd_explain(5, K, 1, t, n, 0, 0, result, K, syndrome, K, NULL, 0, answer, 24) == QMTD_BAD_LENGTH);
+    EXPECT(qmtd_explain(5, K, 1, t, n, 0, 0, result, K, syndrome, K, difference, K, NULL, 0) == QMTD_BAD_LENGTH);
+    EXPECT(qmtd_explain(5, K, 1, t, n, 33, K, NULL, 0, NULL, 0, NULL, 0, NULL, 0) == QMTD_BAD_LENGTH);
+    EXPECT(qmtd_explain(5, 0, 1, t, n, 33, K, NULL, 0, NULL, 0, NULL, 0, NULL, 0) == QMTD_BAD_K);
+    EXPECT(qmtd_explain(0, 0, 1, NULL, 0, 33, K, NULL, 0, NULL, 0, NULL, 0, NULL, 0) == QMTD_BAD_Q);
+
+    EXPECT(answers_untouched() && all(page, sizeof page, 0));
+}
+
 /* The counts are a lent buffer like the others: 6, after 1 to 5 and before 7 to 9. */
 static void counts_length(void)
 {
@@ -201,6 +222,7 @@ static void odd_table(void)
     EXPECT(qmtd_syndrome(5, K, 1, table_a, 7, page, 0, syndrome, 0) == QMTD_BAD_J);
     EXPECT(qmtd_open(5, K, 1, table_a, 7, page, 0, result, 0, syndrome, 0, difference, 0) == QMTD_BAD_J);
     EXPECT(qmtd_pass(5, K, 1, table_a, 7, 33, result, 0, syndrome, 0, difference, 0, changes, 0) == QMTD_BAD_J);
+    EXPECT(qmtd_explain(5, K, 1, table_a, 7, 33, K, result, 0, syndrome, 0, difference, 0, answer, 0) == QMTD_BAD_J);
     EXPECT(answers_untouched());
 }
 
@@ -254,10 +276,12 @@ static void margin_bytes(void)
     EXPECT(QMTD_MARGIN_LEN == 4 && sizeof bytes == QMTD_MARGINS_LEN(sizeof numbers / sizeof numbers[0], 1));
 }
 
-/* Case 9 of document 01, decoded and by one pass, with every piece at every distance from an aligned address. */
+/* Case 9 of document 01, decoded, explained and by one pass, with every piece at every distance from an aligned
+ * address. */
 static void unaligned(void)
 {
     static const uint8_t case_9_counts[QMTD_COUNTS_LEN] = {2, 0, 0, 0, 2, 0, 0, 0, 7, 0, 0, 0, 2, 0, 0, 0};
+    static const uint8_t case_9_answer[QMTD_ANSWER_LEN] = {[0] = 3, [4] = 7, [8] = 3, [12] = 1, [16] = 26};
     enum { ROOM = 80 };
     static union {
         uint64_t alignment;
@@ -282,6 +306,10 @@ static void unaligned(void)
 
         EXPECT(qmtd_open(256, K, 1, at[0], sizeof table_a, at[1], 2 * K, at[3], K, at[4], K, at[5], K) == QMTD_OK);
         EXPECT(memcmp(at[3], at[1], K) == 0 && all(at[5], K, 0));
+        /* The estimates of symbol 0 are 0, 7, 10, 7, 7. */
+        EXPECT(qmtd_explain(256, K, 1, at[0], sizeof table_a, 1, 0, at[3], K, at[4], K, at[5], K, at[7],
+                            QMTD_ANSWER_LEN) == QMTD_OK);
+        EXPECT(memcmp(at[7], case_9_answer, sizeof case_9_answer) == 0);
         EXPECT(qmtd_pass(256, K, 1, at[0], sizeof table_a, 0, at[3], K, at[4], K, at[5], K, at[6],
                          QMTD_CHANGES_LEN) == QMTD_OK);
         EXPECT(all(at[3], K, 0) && all(at[4], K, 0) && at[5][0] == 249 && at[5][1] == 253 && all(at[5] + 2, K - 2, 0));
@@ -358,6 +386,60 @@ static void one_by_one(void)
     EXPECT(QMTD_CHANGES_LEN == 4 && sizeof changes == QMTD_CHANGES_LEN);
 }
 
+/* The page of case 7 opened, and symbols explained before a pass and after it. S is 7 at the checks 0, 1, 4, 6 of symbol
+ * 0, and each other symbol has one of them at most. */
+static void explanations(void)
+{
+    static const struct {
+        uint32_t threshold, symbol, number;
+        uint8_t ground, h0, m0, m1, bits;
+    } opened_asked[] = {
+        {2, 0, QMTD_OK, QMTD_GROUND_CHANGE, 7, 4, 1, 0x1E}, {3, 0, QMTD_OK, QMTD_GROUND_NO_LEAD, 7, 4, 1, 0x1E},
+        {2, 1, QMTD_OK, QMTD_GROUND_ZERO, 0, 4, 1, 0x1D},   {32, 7, QMTD_OK, QMTD_GROUND_NO_LEAD, 0, 4, 1, 0x0F},
+        {0, 12, QMTD_OK, QMTD_GROUND_ZERO, 0, 4, 1, 0x1B},  {0, 13, QMTD_BAD_SYMBOL_NUMBER, 0, 0, 0, 0, 0},
+        {32, 256, QMTD_BAD_SYMBOL_NUMBER, 0, 0, 0, 0, 0},   {0, 0xFFFFFFFF, QMTD_BAD_SYMBOL_NUMBER, 0, 0, 0, 0, 0},
+        {33, 0, QMTD_BAD_THRESHOLD, 0, 0, 0, 0, 0},         {0xFFFFFFFF, 13, QMTD_BAD_THRESHOLD, 0, 0, 0, 0, 0},
+    }, passed_asked[] = {
+        {2, 0, QMTD_OK, QMTD_GROUND_ZERO, 0, 4, 1, 0x1E},   {3, 0, QMTD_OK, QMTD_GROUND_NO_LEAD, 0, 4, 1, 0x1E},
+        {4, 1, QMTD_OK, QMTD_GROUND_ZERO, 0, 5, 0, 0x1F},   {5, 1, QMTD_OK, QMTD_GROUND_NO_LEAD, 0, 5, 0, 0x1F},
+    }, *asked = opened_asked;
+    size_t count = sizeof opened_asked / sizeof opened_asked[0];
+    prepare();
+    page[0] = 7;
+    EXPECT(qmtd_open(256, K, 1, table_a, sizeof table_a, page, sizeof page, result, K, syndrome, K, difference, K) ==
+           QMTD_OK);
+    for (int passed = 0; passed < 2; passed++) {
+        for (size_t i = 0; i < count; i++) {
+            memset(answer, 0xEE, sizeof answer);
+            EXPECT(qmtd_explain(256, K, 1, table_a, sizeof table_a, asked[i].threshold, asked[i].symbol, result, K,
+                                syndrome, K, difference, K, answer, sizeof answer) == asked[i].number);
+            if (asked[i].number != QMTD_OK) {
+                EXPECT(all(answer, sizeof answer, 0xEE));
+                continue;
+            }
+            EXPECT(number_at(answer) == asked[i].ground && number_at(answer + 4) == asked[i].h0);
+            EXPECT(number_at(answer + 8) == asked[i].m0 && number_at(answer + 12) == asked[i].m1);
+            EXPECT(answer[16] == asked[i].bits && all(answer + 17, 7, 0));
+        }
+        EXPECT(result[0] == (passed ? 0 : 7) && all(result + 1, K - 1, 0) && syndrome[0] == (passed ? 0 : 7));
+        EXPECT(difference[0] == (passed ? 249 : 0) && all(difference + 1, K - 1, 0));
+        asked = passed_asked;
+        count = sizeof passed_asked / sizeof passed_asked[0];
+        EXPECT(qmtd_pass(256, K, 1, table_a, sizeof table_a, 2, result, K, syndrome, K, difference, K,
+                         changes, sizeof changes) == QMTD_OK);
+    }
+
+    /* Other lengths of the answer: 6, before 7, 9 and 11. */
+    memset(answer, 0xEE, sizeof answer);
+    syndrome[K - 1] = 5;
+    for (uint64_t len = 0; len < sizeof answer; len++)
+        EXPECT(qmtd_explain(5, K, 1, table_a, sizeof table_a, 33, K, result, K, syndrome, K, difference, K,
+                            answer, len) == QMTD_BAD_LENGTH);
+    EXPECT(all(answer, sizeof answer, 0xEE));
+    EXPECT(QMTD_BAD_SYMBOL_NUMBER == 11 && QMTD_ANSWER_LEN == 24 && sizeof answer == QMTD_ANSWER_LEN);
+    EXPECT(QMTD_GROUND_NO_LEAD == 1 && QMTD_GROUND_ZERO == 2 && QMTD_GROUND_CHANGE == 3);
+}
+
 /* A small generator of our own, so that a failure can be had again. */
 static uint32_t below(uint32_t n)
 {
@@ -391,8 +473,42 @@ static uint32_t nonzero(const uint8_t *symbols, uint32_t len)
     return count;
 }
 
+/* Explains a symbol of what was held before a call, holds the answer against its definition, and returns the ground. */
+static uint32_t ground_of(uint32_t q, uint32_t k, uint32_t b, const uint8_t *table, uint32_t table_len,
+                          uint32_t threshold, uint32_t symbol)
+{
+    const uint32_t n = QMTD_DATA_LEN(k, b), j = table_len / (2 * b);
+    const uint8_t *run = table + 2 * j * (symbol / k), *s = before + 2 * n, *d = before + n;
+    uint32_t votes[256] = {0}, m1 = 0;
+    uint8_t bytes[QMTD_ANSWER_LEN];
+    EXPECT(qmtd_explain(q, k, b, table, table_len, threshold, symbol, before, n, s, k, d, n, bytes, sizeof bytes) ==
+           QMTD_OK);
+    const uint32_t h0 = number_at(bytes + 4), m0 = number_at(bytes + 8);
+    for (uint32_t i = 0; i < 64; i++) {
+        uint32_t set = bytes[16 + i / 8] >> i % 8 & 1, estimate = d[symbol];
+        if (i > j) {
+            EXPECT(set == 0);
+            continue;
+        }
+        if (i > 0)
+            estimate = s[(symbol + (run[2 * i - 2] | (uint32_t)run[2 * i - 1] << 8)) % k];
+        votes[estimate]++;
+        EXPECT(set == (estimate == h0));
+    }
+    for (uint32_t value = 0; value < 256; value++) {
+        EXPECT(value < h0 ? votes[value] < m0 : votes[value] <= m0);
+        m1 = value != h0 && votes[value] > m1 ? votes[value] : m1;
+    }
+    EXPECT(h0 < q && votes[h0] == m0 && number_at(bytes + 12) == m1);
+    EXPECT(number_at(bytes) == (m0 - m1 <= threshold ? QMTD_GROUND_NO_LEAD
+                                : h0 == 0            ? QMTD_GROUND_ZERO
+                                                     : QMTD_GROUND_CHANGE));
+    return number_at(bytes);
+}
+
 /* Makes a pass and returns its changes. Each lowers the nonzero symbols of syndrome and difference by more than the
- * threshold, and result minus difference stays. */
+ * threshold, and result minus difference stays. The first symbol that is changed was to be changed, and none before it:
+ * the visits to these found the buffers as they were before the pass. */
 static uint32_t pass(uint32_t q, uint32_t k, uint32_t b, const uint8_t *table, uint32_t table_len, uint32_t threshold)
 {
     const uint32_t n = QMTD_DATA_LEN(k, b);
@@ -405,6 +521,13 @@ static uint32_t pass(uint32_t q, uint32_t k, uint32_t b, const uint8_t *table, u
     for (uint32_t i = 0; i < n; i++)
         EXPECT((opened[i] + before[n + i]) % q == (before[i] + opened[n + i]) % q);
     EXPECT((made == 0) == (memcmp(opened, before, 2 * n + k) == 0));
+    uint32_t first = 0;
+    while (first < n && opened[first] == before[first])
+        first++;
+    if (first < n)
+        EXPECT(ground_of(q, k, b, table, table_len, threshold, first) == QMTD_GROUND_CHANGE);
+    if (first > 0)
+        EXPECT(ground_of(q, k, b, table, table_len, threshold, below(first)) != QMTD_GROUND_CHANGE);
     return made;
 }
 
@@ -570,6 +693,9 @@ static void branches(void)
         EXPECT(qmtd_pass(5, K, b, table_a, n, 33, result, K, syndrome, K, difference, K, changes, 4) ==
                QMTD_BAD_BRANCHES);
         EXPECT(qmtd_pass(5, K, b, NULL, 0, 33, NULL, 0, NULL, 0, NULL, 0, NULL, 0) == QMTD_BAD_BRANCHES);
+        EXPECT(qmtd_explain(5, K, b, table_a, n, 33, K, result, K, syndrome, K, difference, K, answer, 24) ==
+               QMTD_BAD_BRANCHES);
+        EXPECT(qmtd_explain(5, K, b, NULL, 0, 33, K, NULL, 0, NULL, 0, NULL, 0, NULL, 0) == QMTD_BAD_BRANCHES);
     }
     EXPECT(answers_untouched() && all(page, sizeof page, 0));
 
@@ -598,6 +724,7 @@ int main(void)
     version();
     null_with_length_0();
     null_in_open_and_pass();
+    null_in_explain();
     counts_length();
     odd_table();
     names();
@@ -605,6 +732,7 @@ int main(void)
     unaligned();
     falling_thresholds();
     one_by_one();
+    explanations();
     branches();
     recovery();
     printf("%d failures\n", failures);

@@ -35,9 +35,11 @@ static const uint8_t thresholds[] = {0, 0};
 static const uint8_t expected_difference[K] = {249, 253};
 static const uint8_t expected_counts[QMTD_COUNTS_LEN] = {[0] = 2, [4] = 2, [8] = 7, [12] = 2};
 static const uint8_t expected_changes[QMTD_CHANGES_LEN] = {2};
+/* Of symbol 0, whose estimates are 0, 7, 10, 7, 7. */
+static const uint8_t expected_answer[QMTD_ANSWER_LEN] = {[0] = QMTD_GROUND_CHANGE, [4] = 7, [8] = 3, [12] = 1, [16] = 26};
 
 static uint8_t page[2 * K], result[K], syndrome[K], difference[K], margins[4 * K], counts[QMTD_COUNTS_LEN];
-static uint8_t changes[QMTD_CHANGES_LEN];
+static uint8_t changes[QMTD_CHANGES_LEN], answer[QMTD_ANSWER_LEN];
 
 static int same(const uint8_t *a, const uint8_t *b, size_t len)
 {
@@ -57,6 +59,12 @@ static uint32_t pass(uint32_t threshold)
 {
     return qmtd_pass(256, K, 1, table, sizeof table, threshold, result, K, syndrome, K, difference, K,
                      changes, sizeof changes);
+}
+
+static uint32_t explain(uint32_t symbol)
+{
+    return qmtd_explain(256, K, 1, table, sizeof table, 0, symbol, result, K, syndrome, K, difference, K,
+                        answer, sizeof answer);
 }
 
 /* Nothing but d(0) and d(1) is left that is not 0. */
@@ -95,11 +103,14 @@ int run(void)
             QMTD_OK ||
         !same(result, received, K) || !same(difference, zeros, K))
         return 8;
+    if (explain(0) != QMTD_OK || !same(answer, expected_answer, sizeof answer) ||
+        explain(K) != QMTD_BAD_SYMBOL_NUMBER || !same(answer, expected_answer, sizeof answer))
+        return 9;
     if (pass(0) != QMTD_OK || !same(result, zeros, K) || !same(syndrome, zeros, K) ||
         !same(difference, expected_difference, K) || !same(changes, expected_changes, sizeof changes))
-        return 9;
+        return 10;
     if (pass(33) != QMTD_BAD_THRESHOLD || !same(difference, expected_difference, K) ||
         !same(changes, expected_changes, sizeof changes))
-        return 10;
+        return 11;
     return 0;
 }

@@ -12,6 +12,7 @@ typedef uint32_t syndrome_call(uint32_t, uint32_t, uint32_t, READ, READ, LENT);
 typedef uint32_t decode_call(uint32_t, uint32_t, uint32_t, READ, READ, READ, LENT, LENT, LENT, LENT, LENT);
 typedef uint32_t open_call(uint32_t, uint32_t, uint32_t, READ, READ, LENT, LENT, LENT);
 typedef uint32_t pass_call(uint32_t, uint32_t, uint32_t, READ, uint32_t, LENT, LENT, LENT, LENT);
+typedef uint32_t explain_call(uint32_t, uint32_t, uint32_t, READ, uint32_t, uint32_t, READ, READ, READ, LENT);
 typedef int32_t margin_reader(const uint8_t *, uint64_t);
 
 extern const struct calls {
@@ -22,8 +23,9 @@ extern const struct calls {
     decode_call *decode;
     open_call *open;
     pass_call *pass;
+    explain_call *explain;
     margin_reader *margin;
 } calls;
 
 const struct calls calls = {qmtd_version, qmtd_check_table, qmtd_encode, qmtd_syndrome, qmtd_decode,
-                            qmtd_open, qmtd_pass, qmtd_margin};
+                            qmtd_open, qmtd_pass, qmtd_explain, qmtd_margin};

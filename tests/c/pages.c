@@ -54,6 +54,11 @@ static uint32_t pass(const uint32_t *n, const struct piece *p)
     return qmtd_pass(n[0], n[1], n[2], LENT(p[0]), n[3], LENT(p[1]), LENT(p[2]), LENT(p[3]), LENT(p[4]));
 }
 
+static uint32_t explain(const uint32_t *n, const struct piece *p)
+{
+    return qmtd_explain(n[0], n[1], n[2], LENT(p[0]), n[3], n[4], LENT(p[1]), LENT(p[2]), LENT(p[3]), LENT(p[4]));
+}
+
 /* The calls by their number in the file: name, how many numbers each takes, the names of its pieces, the call itself.
  * Number 0 is no call: it opens a group, whose name is the piece. */
 static const struct call {
@@ -69,6 +74,7 @@ static const struct call {
     {"decode", 3, {"table", "page", "thresholds", "result", "syndrome", "difference", "margins", "counts"}, decode},
     {"open", 3, {"table", "page", "result", "syndrome", "difference"}, open_page},
     {"pass", 4, {"table", "result", "syndrome", "difference", "changes"}, pass},
+    {"explain", 5, {"table", "result", "syndrome", "difference", "answer"}, explain},
 };
 enum { OPEN_GROUP, CALLS = sizeof calls / sizeof calls[0] };
 

@@ -24,6 +24,7 @@ static const struct code {
 
 static uint8_t data[N], page[QMTD_MAX_PAGE_LEN], result[N], syndrome[K], difference[N];
 static uint8_t margins[QMTD_MARGINS_LEN(N, 1)], counts[QMTD_COUNTS_LEN], changes[QMTD_CHANGES_LEN];
+static uint8_t answer[QMTD_ANSWER_LEN];
 static uint8_t stack[STACK] __attribute__((aligned(16)));
 static uint32_t number;
 
@@ -59,6 +60,12 @@ static void open_page(void)
 static void pass(void)
 {
     number = qmtd_pass(CODE, 0, result, N, syndrome, code->k, difference, N, changes, sizeof changes);
+}
+
+/* The last symbol, on what the pass left. */
+static void explain(void)
+{
+    number = qmtd_explain(CODE, 0, N - 1, result, N, syndrome, code->k, difference, N, answer, sizeof answer);
 }
 
 static void idle(void)
@@ -113,7 +120,7 @@ int main(void)
         const char *name;
         void (*call)(void);
     } calls[] = {{"check_table", check_table}, {"encode", encode}, {"syndrome", work_out_syndrome},
-                 {"decode", decode}, {"open", open_page}, {"pass", pass}};
+                 {"decode", decode}, {"open", open_page}, {"pass", pass}, {"explain", explain}};
     int wrong = 0;
     size_t around = used_by(idle);
     for (size_t i = 0; i < N; i++)

@@ -15,7 +15,7 @@ from pathlib import Path
 import reference as ref
 import screen
 from codes import LINES, SINGER, WIDEST, Random, greedy, greedy_runs, positions_for, runs_for, singer
-from records import CHECK_TABLE, DECODE, ENCODE, OPEN, PASS, SYNDROME, Pages
+from records import CHECK_TABLE, DECODE, ENCODE, EXPLAIN, OPEN, PASS, SYNDROME, Pages
 
 ROOT = Path(__file__).resolve().parent.parent.parent
 CRATE = ROOT / "crates" / "reference"
@@ -726,13 +726,13 @@ def branches_lengths(pages, random):
 # The refusals of each call, in the order in which they are tested.
 ORDER = (1, 2, 10, 3, 4, 5, 6, 7, 8, 9)
 REFUSALS = {CHECK_TABLE: ORDER[:6], ENCODE: ORDER[:8], SYNDROME: ORDER[:8], DECODE: ORDER, OPEN: ORDER[:8],
-            PASS: ORDER[:8] + (9,)}
+            PASS: ORDER[:8] + (9,), EXPLAIN: ORDER[:8] + (9, 11)}
 
 
 def spoiled_branches(call, met):
     """The tests and the arguments of a call with two branches, or nine, that meets these refusals. k is 40 and the runs
     are 0, d for d from 1 up. With refusal 2 k is 4,097 and the lengths are still those of 40, so that 6 is met too. In a
-    pass 6 and 7 are met by D."""
+    pass and an explanation 6 and 7 are met by D."""
     q = 2 if 1 in met else 5
     b = 9 if 10 in met else 2
     runs = [[0, d] for d in range(1, b + 1)]
@@ -743,7 +743,7 @@ def spoiled_branches(call, met):
     if 4 in met:
         runs[-1] = runs[-1][:-2] + runs[-1][:-3:-1]
     k, lengths_k = (4097 if 2 in met else 40), 40
-    length = (b if call in (ENCODE, PASS) else b + 1) * lengths_k - (1 if 6 in met else 0)
+    length = (b if call in (ENCODE, PASS, EXPLAIN) else b + 1) * lengths_k - (1 if 6 in met else 0)
     symbols = [0] * length
     if 7 in met:
         symbols[-7] = 5
@@ -764,6 +764,10 @@ def spoiled_branches(call, met):
     if call == PASS:
         arguments = (*code, 33 if 9 in met else 0, [0] * (b * lengths_k), [0] * lengths_k, symbols)
         return ref.pass_tests(*arguments, 4), arguments, {}
+    if call == EXPLAIN:
+        arguments = (*code, 33 if 9 in met else 0, b * k if 11 in met else 0, [0] * (b * lengths_k), [0] * lengths_k,
+                     symbols)
+        return ref.explain_tests(*arguments, 24), arguments, {}
     lengths = ref.decode_lengths(lengths_k, b)
     return (ref.decode_tests(*code, symbols, thresholds, *lengths), (*code, symbols, thresholds),
             {"lengths": lengths})
@@ -1446,6 +1450,244 @@ def open_pass_c_only(pages, random):
     for met in [(number,) for number in REFUSALS[PASS]] + [(7, 9)]:
         _, arguments, _ = spoiled_branches(PASS, met)
         pages.pass_once(*arguments, changes_len=3, expect=6 if met[0] in (7, 9) else met[0])
+
+
+# Explanations (request N6)
+
+def in_any_order(random, votes):
+    """The values of a vote, each as often as it says."""
+    values = [value for value, count in votes.items() for _ in range(count)]
+    return [values.pop(random.below(len(values))) for _ in range(len(values))]
+
+
+def with_estimates(random, code, runs, symbol, values):
+    """Result, S and D of any content, but for the estimates of one symbol."""
+    q, k, b, _ = code
+    result, s, d = random_buffers(random, q, k, b)
+    d[symbol] = values[0]
+    for check, value in zip(ref.checks_of(k, runs, symbol), values[1:]):
+        s[check] = value
+    return result, s, d
+
+
+def leads_of(j):
+    """The leads that J + 1 estimates can have: where one differs from the others they lead by J - 1, else by J + 1."""
+    return [ahead for ahead in range(j + 2) if ahead != j]
+
+
+def votes_for(random, q, j, h0, ahead):
+    """A vote of J + 1 estimates in which h0 has this lead, or is the smallest of those tied for the first place. m1 is as
+    large as the lead allows."""
+    m1, left = divmod(j + 1 - ahead, 2)
+    others = [value for value in range(q) if value > h0 or value < h0 and ahead]
+    votes = {h0: m1 + ahead, **dict(zip(random.some(others, 2), (m1, left)))}
+    return {value: count for value, count in votes.items() if count}
+
+
+def explained(pages, random, code, runs, symbol, threshold, votes, ground, h0):
+    """The estimates of a symbol are these votes, in any order: the answer is as stated."""
+    buffers = with_estimates(random, code, runs, symbol, in_any_order(random, votes))
+    got = pages.explain(*code, threshold, symbol, *buffers, expect=0)
+    m1 = max((count for value, count in votes.items() if value != h0), default=0)
+    assert got[:4] == (ground, h0, votes[h0], m1)
+
+
+@group("explanations, grounds of every J")
+def explain_grounds(pages, random):
+    """Each ground with thresholds of 0, 1, J and 32 where it can be: ground 1 with the largest lead that the threshold
+    allows, the others with the smallest that is above it. From J = 5 one threshold a ground, from J = 9 one page."""
+    def answer(j, ground, threshold):
+        q = (3, 256, 4, 251)[(j + ground) % 4]
+        code, runs = some_code(random, q, min(k for k, p in SINGER.items() if p + 1 >= j), 1, j)
+        h0 = (random.below(q - 2), 0, 1 + random.below(q - 1))[ground - 1]
+        if ground == 1:
+            ahead = max(ahead for ahead in leads_of(j) if ahead <= threshold)
+        else:
+            ahead = min(ahead for ahead in leads_of(j) if ahead > threshold)
+        explained(pages, random, code, runs, random.below(code[1]), threshold, votes_for(random, q, j, h0, ahead),
+                  ground, h0)
+
+    for j in range(1, 5):
+        for ground, threshold in itertools.product((1, 2, 3), sorted({0, 1, j, 32})):
+            if ground == 1 or threshold <= j:
+                answer(j, ground, threshold)
+    for j in range(5, 9):
+        for ground in (1, 2, 3):
+            answer(j, ground, (0, 1, j)[(j + ground) % 3])
+    for j in range(9, 32):
+        answer(j, 1 + j % 3, (0, 1, j, j // 2)[j % 4])
+
+
+@group("explanations, J = 32")
+def explain_widest(pages, random):
+    """33 estimates: the last has the bit that 32 bits have no place for."""
+    for threshold, value, others, ground, bits in (
+            (32, 5, {}, 3, 2 ** 33 - 1), (32, 0, {}, 2, 2 ** 33 - 1),
+            (31, 250, {32: 0}, 1, 2 ** 32 - 1), (30, 250, {0: 249}, 3, 2 ** 33 - 2),
+            (1, 7, {i: 250 - i for i in range(31)}, 1, 2 ** 32 + 2 ** 31)):
+        code, runs = some_code(random, 251, 993, 1, 32)
+        symbol = random.pick((0, random.below(993), 992))
+        buffers = with_estimates(random, code, runs, symbol, [others.get(i, value) for i in range(33)])
+        got = pages.explain(*code, threshold, symbol, *buffers, expect=0)
+        assert (got.ground, got.h0, got.bits) == (ground, value, bits)
+
+
+@group("explanations, ties")
+def explain_ties(pages, random):
+    """Of the tied values h0 is the smallest, wherever it stands. The estimates of symbol 0 of code A."""
+    for q, values, h0, m0, bits in (
+            (256, (2, 2, 1, 1, 0), 1, 2, 12), (256, (1, 1, 2, 2, 0), 1, 2, 3), (3, (1, 2, 2, 1, 0), 1, 2, 9),
+            (256, (9, 0, 9, 0, 3), 0, 2, 10), (4, (3, 3, 2, 0, 2), 2, 2, 20),
+            (256, (255, 254, 253, 252, 251), 251, 1, 16),
+            (251, (0, 250, 249, 248, 247), 0, 1, 1), (251, (250, 249, 0, 249, 250), 249, 2, 10),
+            (256, (255, 0, 255, 0, 128), 0, 2, 10), (5, (4, 3, 2, 1, 0), 0, 1, 16),
+            (256, (128, 127, 127, 128, 1), 127, 2, 6)):
+        buffers = with_estimates(random, (q, 13, 1, ref.CODE_A), [[0, 1, 4, 6]], 0, values)
+        assert pages.explain(q, 13, 1, ref.CODE_A, 0, 0, *buffers, expect=0) == (1, h0, m0, m0, bits)
+    # J = 1; two values with 4 votes each at J = 7; three at J = 11.
+    for q, k, j, votes in ((3, 1, 1, {2: 1, 1: 1}), (256, 57, 7, {200: 4, 199: 4}), (4, 133, 11, {3: 4, 2: 4, 1: 4})):
+        code, runs = some_code(random, q, k, 1, j)
+        for threshold in (0, 32):
+            explained(pages, random, code, runs, random.below(k), threshold, votes, 1, min(votes))
+
+
+@group("explanations in every branch")
+def explain_branches(pages, random):
+    """The first and the last symbol of each: their checks are those of the branch's own run."""
+    for q, k, b, j in ((3, 13, 1, 4), (4, 13, 2, 3), (251, 31, 4, 3), (256, 17, 8, 2)):
+        code, runs = some_code(random, q, k, b, j)
+        for at, (r, i) in enumerate(itertools.product(range(b), (0, k - 1))):
+            ground, h0, other, threshold = ((1, 1, 2, j - 1), (3, 2, 1, j - 2), (2, 0, 1, j - 2))[at % 3]
+            explained(pages, random, code, runs, r * k + i, threshold, {h0: j, other: 1}, ground, h0)
+    # k = 1: each branch has one symbol, and all have the one check, at which S is 7.
+    d = [7, 8, 7, 6, 0, 7, 255, 7]
+    for symbol in range(8):
+        got = pages.explain(256, 1, 8, ref.table_of(*[[0]] * 8), 1, symbol, random.symbols(256, 8), [7], d, expect=0)
+        assert got == ((3, 7, 2, 0, 3) if d[symbol] == 7 else (1, 7, 1, 1, 2) if d[symbol] > 7 else
+                       (1, d[symbol], 1, 1, 1))
+
+
+@group("explanations, the limits of the symbol number")
+def explain_symbols(pages, random):
+    """Numbers that would pass if only their low bits were looked at, or if they were held against the page's length, are
+    among them."""
+    for q, k, b, j in ((256, 1, 1, 1), (5, 13, 1, 4), (3, 17, 8, 2)):
+        code, _ = some_code(random, q, k, b, j)
+        buffers = any_buffers(random, q, k, b)
+        for symbol in (0, b * k - 1):
+            pages.explain(*code, 1, symbol, *buffers, expect=0)
+        for symbol in (b * k, (b + 1) * k, 256, 65536, 2 ** 31, 2 ** 32 - 1):
+            pages.explain(*code, 1, symbol, *buffers, expect=11)
+    # The last of 4,096 data symbols.
+    code, _ = some_code(random, 256, 512, 8, 7)
+    pages.explain(*code, 0, 4095, *any_buffers(random, 256, 512, 8), expect=0)
+
+
+@group("explanations of opened pages")
+def explain_opened(pages, random):
+    """As a bench asks: a page is opened, symbols are asked for, a pass is made, they are asked for again."""
+    a = 256, 13, 1, ref.CODE_A
+    buffers = pages.open_page(*a, ref.page_a({0: 7}), expect=0)
+    for threshold, symbol, answer in ((2, 0, (3, 7, 4, 1, 30)), (3, 0, (1, 7, 4, 1, 30)), (2, 1, (2, 0, 4, 1, 29)),
+                                      (3, 7, (1, 0, 4, 1, 15))):
+        assert pages.explain(*a, threshold, symbol, *buffers, expect=0) == answer
+    buffers = pages.pass_once(*a, 2, *buffers, expect=0)[:3]
+    for threshold, symbol, answer in ((2, 0, (2, 0, 4, 1, 30)), (4, 1, (2, 0, 5, 0, 31)), (5, 1, (1, 0, 5, 0, 31))):
+        assert pages.explain(*a, threshold, symbol, *buffers, expect=0) == answer
+
+    # Asked for are the first replaced symbols and one more, before each pass and after the last.
+    grounds = []
+    for q, k, b, j, replaced, thresholds in (
+            (251, 31, 1, 6, 3, [2, 0]), (3, 31, 1, 6, 9, [1]), (4, 57, 1, 8, 4, [3]), (256, 13, 2, 3, 1, [1, 0]),
+            (4, 40, 3, 4, 6, [0]), (256, 17, 8, 2, 8, [0])):
+        code, runs = some_code(random, q, k, b, j)
+        places = branch_places(k, b, replaced, random)
+        page = damaged(random, q, ref.code_word(q, k, runs, random.symbols(q, b * k)), places)
+        buffers = pages.open_page(*code, page, expect=0)
+        asked = [place for place in places[:2] if place < b * k] + [random.below(b * k)]
+        for threshold in thresholds:
+            grounds += [pages.explain(*code, threshold, symbol, *buffers, expect=0).ground for symbol in asked]
+            buffers = pages.pass_once(*code, threshold, *buffers, expect=0)[:3]
+        grounds += [pages.explain(*code, thresholds[-1], symbol, *buffers, expect=0).ground for symbol in asked]
+    assert min(grounds.count(ground) for ground in (1, 2, 3)) >= 4
+
+
+@group("explanations of buffers of any content")
+def explain_any_content(pages, random):
+    grounds = []
+    for at, (q, k, b, j) in enumerate(((3, 7, 1, 3), (4, 13, 1, 4), (251, 31, 1, 6), (256, 57, 1, 8), (3, 133, 1, 12),
+                                       (256, 13, 2, 3), (4, 31, 4, 3), (251, 17, 8, 2), (3, 40, 3, 4))):
+        code, _ = some_code(random, q, k, b, j)
+        buffers = (any_buffers, random_buffers)[at % 2](random, q, k, b)
+        for threshold in (0, j - 1):
+            grounds.append(pages.explain(*code, threshold, random.below(b * k), *buffers, expect=0).ground)
+    # S and D all 0: zero leads by J + 1, whatever the result is.
+    for q, k, b, j, threshold in ((3, 1, 1, 1, 1), (256, 13, 1, 4, 4), (251, 13, 2, 3, 4), (4, 17, 8, 2, 0)):
+        code, _ = some_code(random, q, k, b, j)
+        got = pages.explain(*code, threshold, b * k - 1, random.symbols(q, b * k), [0] * k, [0] * (b * k), expect=0)
+        assert got == (2 if threshold <= j else 1, 0, j + 1, 0, 2 ** (j + 1) - 1)
+        grounds.append(got.ground)
+    assert set(grounds) == {1, 2, 3}
+
+
+def asked_of_zeros(pages, q, k, b, table, lent_for=None, expect=None):
+    """Symbol 0 of buffers that are all 0, for this k and b or for another pair."""
+    lengths = ref.buffer_lengths(*(lent_for or (k, b)))
+    pages.explain(q, k, b, table, 0, 0, *([0] * length for length in lengths), expect=expect)
+
+
+@group("explanations, refusals one by one")
+def explain_one_by_one(pages, random):
+    """Each refusal at the edges of what it tests; 11 has a group of its own."""
+    a, two, lent_for = ref.CODE_A, ref.table_of([0, 1, 4], [0, 2, 7]), (13, 1)
+    for q, number in ((2, 1), (3, 0), (256, 0), (257, 1), (65541, 1)):
+        asked_of_zeros(pages, q, 13, 1, a, expect=number)
+    for k in (0, 4097, 65549):
+        asked_of_zeros(pages, 5, k, 1, a, lent_for, expect=2)
+    for k, b in ((13, 0), (13, 9), (13, 257), (16, 2 ** 28 + 1), (2049, 2), (513, 8)):
+        asked_of_zeros(pages, 5, k, b, a, lent_for, expect=10)
+    for b, table in ((1, b""), (1, ref.table_of(range(33))), (2, ref.table_of([0, 1, 4]))):
+        asked_of_zeros(pages, 5, 13, b, table, expect=3)
+    for b, table in ((1, ref.table_of([0, 1, 4, 13])), (2, ref.table_of([0, 1], [2, 0]))):
+        asked_of_zeros(pages, 5, 13, b, table, expect=4)
+    for k, b, table in ((12, 1, a), (13, 2, ref.table_of([0, 1], [0, 1]))):
+        asked_of_zeros(pages, 5, k, b, table, expect=5)
+
+    # 6: each buffer one symbol off, and one branch.
+    clean = [[0] * n for n in ref.buffer_lengths(13, 2)]
+    for at, more in itertools.product((RESULT, S, D), (-1, 1, -13, 13)):
+        pages.explain(5, 13, 2, two, 0, 0, *resized(clean, at, more), expect=6)
+    # 7: the first and the last symbol of each buffer, also where it is none of the symbol's estimates. With q - 1 there
+    # it is none.
+    for q, symbol, number in ((251, 251, 7), (251, 250, 0)):
+        for at, place in itertools.product((RESULT, S, D), (0, -1)):
+            buffers = [list(buffer) for buffer in clean]
+            buffers[at][place] = symbol
+            pages.explain(q, 13, 2, two, 32, 15, *buffers, expect=number)
+    # 9: the threshold is a number of 32 bits.
+    for threshold in (32, 33, 256, 65536, 2 ** 31, 2 ** 32 - 1):
+        pages.explain(5, 13, 2, two, threshold, 25, *clean, expect=0 if threshold == 32 else 9)
+
+
+@group("explanations, refusals in pairs")
+def explain_pairs(pages, random):
+    refused_in_pairs(EXPLAIN, pages.explain)
+
+
+@group("explanations in C alone", c_only=True)
+def explain_c_only(pages, random):
+    """Tables of an odd length, and other lengths of the answer than 24."""
+    odd = ref.CODE_A + b"\0"
+    for length in (1, 7, 9):
+        asked_of_zeros(pages, 5, 13, 1, odd[:length], expect=3)
+    asked_of_zeros(pages, 5, 13, 9, odd, (13, 1), expect=10)
+    code, _ = some_code(random, 5, 13, 1, 4)
+    for length in (0, 4, 16, 20, 23, 25, 32):
+        pages.explain(*code, 0, 0, *any_buffers(random, 5, 13, 1), answer_len=length, expect=6)
+    # With something else amiss, before 6 or after it.
+    for met in [(number,) for number in REFUSALS[EXPLAIN]] + [(7, 9, 11)]:
+        _, arguments, _ = spoiled_branches(EXPLAIN, met)
+        pages.explain(*arguments, answer_len=23, expect=6 if met[0] in (7, 9, 11) else met[0])
 
 
 def make():

@@ -6,7 +6,7 @@ import struct
 import reference as ref
 
 # The number of a call in the file; 0 opens a group.
-OPEN_GROUP, CHECK_TABLE, ENCODE, SYNDROME, DECODE, OPEN, PASS = range(7)
+OPEN_GROUP, CHECK_TABLE, ENCODE, SYNDROME, DECODE, OPEN, PASS, EXPLAIN = range(8)
 
 # What a record gives of a string's content.
 BEFORE, AFTER = 1, 2
@@ -119,6 +119,14 @@ class Pages:
         self._call(PASS, number, expect, [q, k, b, threshold], table, [*buffers, changes])
         return got
 
+    def explain(self, q, k, b, table, threshold, symbol, result, s, d, answer_len=24, expect=None):
+        """Returns the answer, None where it is refused."""
+        number, got = ref.explain(q, k, b, table, threshold, symbol, result, s, d, answer_len)
+        answer = lent(answer_len, number, struct.pack("<4IQ", *got) if got else None)
+        self._call(EXPLAIN, number, expect, [q, k, b, threshold, symbol], table,
+                   [*map(read, (result, s, d)), answer])
+        return got
+
     def every_call(self, q, k, b, table, expect=None):
         """The first four calls, on symbols that are all 0."""
         self.check_table(q, k, b, table, expect)
@@ -127,7 +135,7 @@ class Pages:
         self.decode(q, k, b, table, [0] * ((b + 1) * k), [0], expect=expect)
 
     def open_and_pass(self, q, k, b, table, lent_for=None, expect=None):
-        """The other two, on symbols that are all 0, in buffers for this k and b or for another pair."""
+        """The next two, on symbols that are all 0, in buffers for this k and b or for another pair."""
         other_k, other_b = lent_for or (k, b)
         lengths = ref.buffer_lengths(other_k, other_b)
         self.open_page(q, k, b, table, [0] * ((other_b + 1) * other_k), lengths, expect)

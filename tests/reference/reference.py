@@ -1,10 +1,10 @@
-"""The page code and its decoder, as documents 01 and 02 (requests N1, N2, N4 and N5) state them: clear rather than fast.
+"""The page code and its decoder, as documents 01 and 02 (requests N1, N2 and N4 to N6) state them: clear rather than fast.
 
-Shares no code and no tables with the library. `check_table`, `encode`, `syndrome`, `decode`, `open_page` and `pass_once`
-take what the C calls take, with the lengths of buffers lent for an answer in place of the buffers. They return the number
-and, at 0, what was written. Elsewhere a code is q, k and its runs, a list of positions for each branch. Run as a program
-it tries itself on the worked cases of document 01, on the codes of N2, on the threshold lists of N4 and on the passes of
-N5.
+Shares no code and no tables with the library. `check_table`, `encode`, `syndrome`, `decode`, `open_page`, `pass_once` and
+`explain` take what the C calls take, with the lengths of buffers lent for an answer in place of the buffers. They return
+the number and, at 0, what was written. Elsewhere a code is q, k and its runs, a list of positions for each branch. Run as
+a program it tries itself on the worked cases of document 01, on the codes of N2, on the threshold lists of N4, on the
+passes of N5 and on the explanations of N6.
 """
 
 import functools
@@ -19,6 +19,7 @@ Counts = namedtuple("Counts", "passes changes start end")
 Decoded = namedtuple("Decoded", "result syndrome difference margins counts places changes_of_pass")
 Opened = namedtuple("Opened", "result syndrome difference")
 Passed = namedtuple("Passed", "result syndrome difference changes")
+Explained = namedtuple("Explained", "ground h0 m0 m1 bits")
 
 
 # The code
@@ -116,7 +117,7 @@ def self_orthogonal(k, runs):
     return _self_orthogonal(k, tuple(tuple(run) for run in runs))
 
 
-# Refusals: one test a number. Each call makes those it has in this order: 1, 2, 10, 3, 4, .. 9.
+# Refusals: one test a number. Each call makes those it has in this order: 1, 2, 10, 3, 4, .. 9, 11.
 
 def bad_q(q):
     return not 3 <= q <= 256
@@ -194,11 +195,22 @@ def open_tests(q, k, b, table, page, *lengths):
     ]
 
 
-def pass_tests(q, k, b, table, threshold, result, s, d, changes_len):
+def opened_tests(q, k, b, table, threshold, result, s, d, answer_fits):
+    """The tests of a call on the buffers of an opened page; is the memory lent for its answer as long as it must be?"""
     return table_tests(q, k, b, table) + [
-        (6, lambda: (len(result), len(s), len(d)) != buffer_lengths(k, b) or changes_len != 4),
+        (6, lambda: (len(result), len(s), len(d)) != buffer_lengths(k, b) or not answer_fits),
         (7, lambda: any(bad_symbol(q, buffer) for buffer in (result, s, d))),
         (9, lambda: threshold > 32),
+    ]
+
+
+def pass_tests(q, k, b, table, threshold, result, s, d, changes_len):
+    return opened_tests(q, k, b, table, threshold, result, s, d, changes_len == 4)
+
+
+def explain_tests(q, k, b, table, threshold, symbol, result, s, d, answer_len):
+    return opened_tests(q, k, b, table, threshold, result, s, d, answer_len == 24) + [
+        (11, lambda: symbol >= b * k),
     ]
 
 
@@ -213,13 +225,13 @@ def estimates(k, runs, s, d, j):
     return [d[j]] + [s[i] for i in checks_of(k, runs, j)]
 
 
-def lead(values):
-    """The commonest value h0 and m0 - m1, its lead over the other values. Of values tied for first place h0 is the
-    smallest; the lead is then 0."""
+def vote(values):
+    """The commonest value h0, its count m0, and m1, the largest count of any other value, 0 if there is none. Of values
+    tied for first place h0 is the smallest; m1 is then m0."""
     votes = Counter(values)
     h0 = min(votes, key=lambda value: (-votes[value], value))
     m1 = max((count for value, count in votes.items() if value != h0), default=0)
-    return h0, votes[h0] - m1
+    return h0, votes[h0], m1
 
 
 def margin(values):
@@ -244,21 +256,24 @@ def opened(q, k, runs, page):
     return list(page[:n]), syndrome_of(q, k, runs, page), [0] * n
 
 
+def visit(q, k, runs, threshold, result, s, d, j):
+    """A visit to data symbol j. Alters the three lists where it makes a change, and returns whether it does."""
+    before = estimates(k, runs, s, d, j)
+    h0, m0, m1 = vote(before)
+    if m0 - m1 <= threshold or h0 == 0:
+        return False
+    result[j] = (result[j] - h0) % q
+    d[j] = (d[j] - h0) % q
+    for i in checks_of(k, runs, j):
+        s[i] = (s[i] - h0) % q
+    # What N5 says of every change: the estimates are all that it altered of S and D.
+    assert nonzero(before) - nonzero(estimates(k, runs, s, d, j)) > threshold
+    return True
+
+
 def one_pass(q, k, runs, threshold, result, s, d):
     """A visit to every data symbol in order. Alters the three lists and returns the number of changes."""
-    changes = 0
-    for j in range(len(runs) * k):
-        before = estimates(k, runs, s, d, j)
-        h0, ahead = lead(before)
-        if ahead > threshold and h0 != 0:
-            result[j] = (result[j] - h0) % q
-            d[j] = (d[j] - h0) % q
-            for i in checks_of(k, runs, j):
-                s[i] = (s[i] - h0) % q
-            changes += 1
-            # What N5 says of every change: the estimates are all that it altered of S and D.
-            assert nonzero(before) - nonzero(estimates(k, runs, s, d, j)) > threshold
-    return changes
+    return sum(visit(q, k, runs, threshold, result, s, d, j) for j in range(len(runs) * k))
 
 
 def run(q, k, runs, page, thresholds):
@@ -365,6 +380,29 @@ def pass_once(q, k, b, table, threshold, result, s, d, changes_len=4):
     return 0, got
 
 
+def explain(q, k, b, table, threshold, symbol, result, s, d, answer_len=24):
+    number = first_that_applies(explain_tests(q, k, b, table, threshold, symbol, result, s, d, answer_len))
+    if number:
+        return number, None
+    runs = runs_of(b, table)
+    values = estimates(k, runs, s, d, symbol)
+    h0, m0, m1 = vote(values)
+    got = Explained(
+        ground=1 if m0 - m1 <= threshold else 2 if h0 == 0 else 3,
+        h0=h0, m0=m0, m1=m1,
+        bits=sum(1 << i for i, value in enumerate(values) if value == h0))
+
+    # What N6 says of every ground: it is the one by which a visit now would act, on 3 by h0.
+    before, after = [[list(result), list(s), list(d)] for _ in range(2)]
+    assert visit(q, k, runs, threshold, *after, symbol) == (got.ground == 3) == (after != before)
+    assert got.ground != 3 or after[0][symbol] == (result[symbol] - h0) % q
+    # The number of bits set, and what the margin says of the grounds.
+    assert bin(got.bits).count("1") == m0 and got.bits < 2 ** len(values)
+    assert (got.ground == 2) == (margin(values) > threshold)
+    assert got.ground != 3 or margin(values) < -threshold
+    return 0, got
+
+
 # The worked cases of document 01
 
 CODE_A = table_of([0, 1, 4, 6])
@@ -425,9 +463,8 @@ def self_check():
     assert [decode_a(5, page_a(), [t])[0] for t in (32, 33)] == [0, 9]
     assert decode_a(5, page_a({3: 5}), [])[0] == 7
     # 14
-    h0, ahead = lead([2, 2, 1, 1, 0])
-    assert ahead == 0
-    assert lead([7, 7, 0, 9, 1]) == (7, 1)
+    assert vote([2, 2, 1, 1, 0]) == (1, 2, 2)
+    assert vote([7, 7, 0, 9, 1]) == (7, 2, 1)
     # N1: a list of estimates by itself, then the pages of cases 6 and 8, and that of case 7 with a threshold of 3 alone
     for values, due in (([0] * 5, 5), ([7] * 5, -5), ([0, 0, 0, 0, 1], 3), ([1, 2, 3, 4, 5], -1), ([9, 9, 9, 9, 4], -4),
                         ([0, 0, 3, 3, 8], 0), ([0, 0, 0, 3, 8], 2), ([0, 1], 0), ([1, 1], -2)):
@@ -441,6 +478,7 @@ def self_check():
     branches_check()
     schedules_check()
     passes_check()
+    explain_check()
 
 
 def branches_check():
@@ -596,6 +634,69 @@ def passes_check():
     assert most[0] >= most[1] >= most[2] > most[3] == 0
 
 
+def explain_check():
+    """N6: answers worked out by hand, on an opened page, after a pass, in two branches and in ties; the place of each
+    refusal; answers for buffers of every content against a pass on them."""
+    # The page of case 6: S is 7 at the four checks of symbol 0, and each other symbol has one of these at most. Symbol 1
+    # has the checks 1, 2, 5, 7; 5 has 5, 6, 9, 11; 7 has 7, 8, 11, 0; 10 has 10, 11, 1, 3.
+    code = 256, 13, 1, CODE_A
+    seven = open_page(*code, page_a({0: 7}), 13, 13, 13)[1]
+    for symbol, h0, bits in ((0, 7, 0b11110), (1, 0, 0b11101), (5, 0, 0b11011), (10, 0, 0b10111), (7, 0, 0b01111)):
+        for threshold in (0, 2, 3, 32):
+            ground = 1 if threshold >= 3 else 3 if symbol == 0 else 2
+            assert explain(*code, threshold, symbol, *seven) == (0, (ground, h0, 4, 1, bits))
+    # After the pass that changes symbol 0 its d alone is not 0, and nothing speaks against symbol 1.
+    right = pass_once(*code, 2, *seven)[1][:3]
+    assert explain(*code, 2, 0, *right) == (0, (2, 0, 4, 1, 0b11110))
+    assert explain(*code, 4, 1, *right) == (0, (2, 0, 5, 0, 0b11111))
+    assert explain(*code, 5, 1, *right) == (0, (1, 0, 5, 0, 0b11111))
+    # Two branches, k = 13, runs 0, 1 and 0, 2; symbol 25 replaced, so that S is 250 at its checks 12 and 1.
+    two = 256, 13, 2, table_of([0, 1], [0, 2])
+    buffers = open_page(*two, symbols(39, {25: 250}), *buffer_lengths(13, 2))[1]
+    for threshold, symbol, answer in (
+            (0, 25, (3, 250, 2, 1, 0b110)), (1, 25, (1, 250, 2, 1, 0b110)), (0, 12, (2, 0, 2, 1, 0b101)),
+            (0, 11, (2, 0, 2, 1, 0b011)), (0, 23, (2, 0, 2, 1, 0b011)), (2, 13, (2, 0, 3, 0, 0b111))):
+        assert explain(*two, threshold, symbol, *buffers) == (0, answer)
+    # Estimates of symbol 0 of code A: ties, then one vote more for one of the tied values, then all that agree.
+    for q, values, answer in (
+            (256, (2, 2, 1, 1, 0), (1, 1, 2, 2, 0b01100)), (3, (2, 0, 2, 1, 0), (1, 0, 2, 2, 0b10010)),
+            (256, (255, 9, 8, 255, 8), (1, 8, 2, 2, 0b10100)), (256, (5, 4, 3, 2, 1), (1, 1, 1, 1, 0b10000)),
+            (5, (0, 1, 2, 3, 4), (1, 0, 1, 1, 0b00001)), (3, (2, 2, 1, 2, 1), (3, 2, 3, 2, 0b01011)),
+            (4, (3, 0, 0, 3, 0), (2, 0, 3, 2, 0b10110)), (251, (250,) * 5, (3, 250, 5, 0, 0b11111))):
+        buffers = [0] * 13, symbols(13, dict(zip((0, 1, 4, 6), values[1:]))), symbols(13, {0: values[0]})
+        assert explain(q, 13, 1, CODE_A, 0, 0, *buffers) == (0, answer)
+        assert explain(q, 13, 1, CODE_A, 5, 0, *buffers) == (0, (1, *answer[1:]))
+
+    # 11 comes after all others; 6 is also another length of the answer than 24.
+    zeros = [0] * 26, [0] * 13, [0] * 26
+    for symbol, number in ((0, 0), (25, 0), (26, 11), (38, 11), (256, 11), (2 ** 32 - 1, 11)):
+        assert explain(*two, 32, symbol, *zeros)[0] == number
+        assert explain(*two, 33, symbol, *zeros)[0] == 9
+        assert [explain(*two, 33, symbol, *zeros, length)[0] for length in (0, 23, 25)] == [6, 6, 6]
+        for at in range(3):
+            five = [buffer[:-1] + [5] if i == at else buffer for i, buffer in enumerate(zeros)]
+            assert explain(5, *two[1:], 33, symbol, *five)[0] == 7
+
+    # Every S and D of k = 3, positions 0, 1 at q = 3, by the counts of 0, 1 and 2. The first symbol that a pass changes
+    # is the first whose ground is 3, and a pass that changes nothing finds none.
+    small, grounds = (3, 3, 1, table_of([0, 1])), set()
+    for *s, d0, d1, d2 in itertools.product(range(3), repeat=6):
+        buffers = [0, 1, 2], s, [d0, d1, d2]
+        for threshold in range(4):
+            answers = [explain(*small, threshold, j, *buffers)[1] for j in range(3)]
+            for j, (ground, h0, m0, m1, bits) in enumerate(answers):
+                values = [buffers[2][j], s[j], s[(j + 1) % 3]]
+                counts = [values.count(value) for value in range(3)]
+                assert m0 == max(counts) and h0 == counts.index(m0) and m1 == sorted(counts)[1]
+                assert [bits >> i & 1 for i in range(3)] == [value == h0 for value in values]
+            after = pass_once(*small, threshold, *buffers)[1].result
+            moved = [j for j in range(3) if after[j] != j]
+            assert moved[:1] == [j for j in range(3) if answers[j].ground == 3][:1]
+            grounds |= {(threshold, answer.ground) for answer in answers}
+    assert grounds == {(t, ground) for t in range(3) for ground in (1, 2, 3)} | {(3, 1)}
+
+
 if __name__ == "__main__":
     self_check()
-    print("The worked cases of document 01, the codes of N2, the threshold lists of N4 and the passes of N5 pass.")
+    print("The worked cases of document 01, the codes of N2, the threshold lists of N4, the passes of N5 and the "
+          "explanations of N6 pass.")

@@ -1,5 +1,5 @@
 """What examples/screen.c prints where it prints no colours, by the reference program: the same data, damage and layout,
-but the code word, the opening, the passes, the decode and the margins are those of reference.py."""
+but the code word, the opening, the passes, the decode, the margins and the explanation are those of reference.py."""
 
 import reference as ref
 
@@ -30,10 +30,10 @@ def draws():
     return draw
 
 
-def damaged(page):
+def damaged(page, replaced):
     draw, hit = draws(), set()
     page = list(page)
-    while len(hit) < REPLACED:
+    while len(hit) < replaced:
         place = draw(2 * K)
         if place not in hit:
             hit.add(place)
@@ -71,10 +71,31 @@ def passes(page, decoded):
     return lines
 
 
-def content():
-    """The text, as bytes."""
+def explained(when, symbol, result, s, d):
+    """What a visit would do to a symbol, why, and which estimates speak for the commonest value."""
+    threshold = THRESHOLDS[-1]
+    number, (ground, h0, m0, m1, bits) = ref.explain(Q, K, 1, ref.table_of(POSITIONS), threshold, symbol, result, s, d)
+    assert number == 0
+    names = ["the difference"] + [f"check {check}" for check in ref.checks_of(K, [POSITIONS], symbol)]
+    return [f"{when} it is {result[symbol]}. Of {len(names)} votes {h0} has {m0}, the next value {m1}. A visit with "
+            f"threshold {threshold}",
+            {1: "  leaves it: the lead is not above the threshold.",
+             2: "  leaves it: 0 leads, so that nothing is to be subtracted.",
+             3: f"  would change it to {(result[symbol] - h0) % Q}."}[ground],
+            f"  For {h0} speak: " + ", ".join(name for i, name in enumerate(names) if bits >> i & 1)]
+
+
+def explained_symbol(symbol, page, decoded):
+    """A symbol as the decode handed it back, then as it was received."""
+    return ["", f"Symbol {symbol}, {5 * (symbol // 16) - 20} C and charge {symbol % 16}/16:",
+            *explained("After the passes", symbol, *decoded[:3]),
+            *explained("As received", symbol, *ref.opened(Q, K, [POSITIONS], page))]
+
+
+def content(replaced=REPLACED, symbol=None):
+    """The text, as bytes; of the weakest symbol where none is named."""
     sent = [AT_EMPTY[j // 16] * (16 - j % 16) // 16 for j in range(K)]
-    page = damaged(ref.code_word(Q, K, [POSITIONS], sent))
+    page = damaged(ref.code_word(Q, K, [POSITIONS], sent), replaced)
     number, got = ref.decode(Q, K, 1, ref.table_of(POSITIONS), page, THRESHOLDS, *ref.decode_lengths(K, 1))
     assert number == 0
     stands = [standing(margin) for margin in got.margins]
@@ -90,6 +111,7 @@ def content():
         those = [i for i in range(K) if stands[i] == each]
         wrong = sum(got.result[i] != sent[i] for i in those)
         lines.append(f"{mark} {name:8}  {margin:16}  {len(those):3} symbols, {wrong} not as sent")
-    lines.append(f"{REPLACED} symbols replaced; passes {got.counts.passes}, changes {got.counts.changes}, "
+    lines.append(f"{replaced} symbols replaced; passes {got.counts.passes}, changes {got.counts.changes}, "
                  f"distance {got.counts.start} at the start, {got.counts.end} at the end")
+    lines += explained_symbol(got.margins.index(min(got.margins)) if symbol is None else symbol, page, got)
     return "".join(line + "\n" for line in lines).encode()

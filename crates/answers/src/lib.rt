@@ -2,10 +2,10 @@
 use params::Params;
 ghost use mathlib.Core.Path.{_≡_};
 ghost use mathlib.Core.Bool.{_&&_};
-ghost use Prim.Native.Nat.{_+_, _*_};
+ghost use Prim.Native.Nat.{_+_, _*_, _≤_};
 ghost use lib.Dec.{eqb};
 ghost use Rattle.model.specs.Decoder.{stateBy};
-ghost use Rattle.model.specs.Calls.{firstThatApplies, pageTests, thresholdTests, decodeAnswer, passAnswer};
+ghost use Rattle.model.specs.Calls.{firstThatApplies, pageTests, thresholdTests, decodeAnswer, passAnswer, explainAnswer};
 ghost use Rattle.params.specs.Codes.{codeBy};
 
 // Two lengths are as a call needs them.
@@ -141,4 +141,38 @@ pub fn pass_answer(
         return 7;
     }
     if 32 < threshold { 9 } else { 0 }
+}
+
+// The tests of explain: those of a pass, and 11 of the symbol's number.
+pub fn explain_answer(
+    code: Params,
+    positions: &[u16],
+    fits: bool,
+    threshold: u32,
+    symbol: u32,
+    result: &[u8],
+    syndrome: &[u8],
+    difference: &[u8],
+) -> u32
+    requires { ⌜ code .b * code .k ≤ 18446744073709551615 ⌝ }
+    ensures { λ r. ⌜ r ≡ explainAnswer (codeBy code (now (positions .entry))) fits threshold symbol
+        (stateBy (now (result .entry)) (now (syndrome .entry)) (now (difference .entry))) ⌝ }
+{
+    let number = pass_answer(
+        code,
+        positions,
+        fits,
+        threshold,
+        result,
+        syndrome,
+        difference,
+    );
+    if number != 0 {
+        return number;
+    }
+    let n = params::data_count(code);
+    if n <= symbol as usize {
+        return 11;
+    }
+    0
 }

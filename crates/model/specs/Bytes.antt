@@ -1,4 +1,5 @@
--- What the C calls read and write as bytes, low byte first: the positions of a table, the margins and the counts of a decode, the changes of a pass.
+-- What the C calls read and write as bytes, low byte first: the positions of a table, the margins and the counts of a decode, the changes of a pass, the
+-- answer of explain.
 use mathlib.Core.Bool.{_&&_}
 use mathlib.Core.List.{List, [], _∷_, _++_}
 use Prim.Native.Nat.{ℕ, _+_, _-_, _*_, _/_, _%_}
@@ -8,7 +9,7 @@ use lib.ListN.{length, getD}
 use Rattle.model.specs.Symbols.{choose, tabulate}
 use Rattle.model.specs.Code.{Code, dataCount}
 use Rattle.model.specs.Decoder.{State, Counts, decodedState, decodedCounts, marginsOf}
-use Rattle.model.specs.Calls.{Outcome, outcome, Decoded, Passed, stateFits, decodeFits, decodeAnswer, passAnswer, passedState, passedChanges}
+use Rattle.model.specs.Calls.{Outcome, outcome, Decoded, Passed, stateFits, decodeFits, decodeAnswer, passAnswer, passedState, passedChanges, Explained, explained, explainAnswer}
 
 -- the two-byte number i of a byte string
 abbrev pub positionAt : List ℕ → ℕ → ℕ
@@ -51,3 +52,13 @@ cPassOutcome c threshold lent changes =
     outcome (passAnswer c (eqb (length changes) 4 && stateFits c lent) threshold lent)
     (record { state = passedState c threshold lent; changes = wordOf (passedChanges c threshold lent) })
     (record { state = lent; changes = changes })
+
+-- "answer 24 bytes": ground, h0, m0, m1, four bytes each, then the bits, eight bytes (N6)
+unfoldable pub explainedBytes : Explained → List ℕ
+explainedBytes e =
+    wordOf (e .ground) ++ wordOf (e .leader) ++ wordOf (e .lead) ++ wordOf (e .next) ++ wordOf (e .bits % 4294967296) ++ wordOf (e .bits / 4294967296)
+
+-- the C form of explain writes its answer into 24 lent bytes
+unfoldable pub cExplainOutcome : Code → ℕ → ℕ → State → List ℕ → Outcome (List ℕ)
+cExplainOutcome c threshold j read answer =
+    outcome (explainAnswer c (eqb (length answer) 24 && stateFits c read) threshold j read) (explainedBytes (explained c threshold j read)) answer

@@ -7,7 +7,8 @@ use lib.IntN.{ℤ}
 use lib.ListN.{length}
 use Rattle.model.specs.Symbols.{choose}
 use Rattle.model.specs.Code.{Code, dataCount, checkCount, pageLength, checksEach, checksOf, branchAt, codeWord, syndrome, everyBelow, selfOrthogonal}
-use Rattle.model.specs.Decoder.{State, Visit, after, changeCount, pass, passes, dataSymbols, opened, Counts, decodedState, decodedCounts, marginsOf}
+use Rattle.model.specs.Vote.{leader, leadCount, nextCount, ground, equalBits}
+use Rattle.model.specs.Decoder.{State, Visit, estimates, after, changeCount, pass, passes, dataSymbols, opened, Counts, decodedState, decodedCounts, marginsOf}
 
 -- ---- tests
 
@@ -115,8 +116,15 @@ abbrev pub stateSymbols : State → List ℕ
 stateSymbols st = st .result ++ (st .syndrome ++ st .difference)
 
 -- a pass reads and lends the result, S and D: "A pass gives 7 for any out-of-range symbol in the three buffers, and 9 for its threshold." (N5)
+unfoldable pub passTests : Code → Bool → ℕ → State → List Test
+passTests c fits threshold lent = pageTests c fits (stateSymbols lent) ++ thresholdTest threshold
+
 unfoldable pub passAnswer : Code → Bool → ℕ → State → ℕ
-passAnswer c fits threshold lent = firstThatApplies (pageTests c fits (stateSymbols lent) ++ thresholdTest threshold)
+passAnswer c fits threshold lent = firstThatApplies (passTests c fits threshold lent)
+
+-- explain has a pass's tests, and "11, after all others: the symbol number is not below the number of data symbols" (N6)
+unfoldable pub explainAnswer : Code → Bool → ℕ → ℕ → State → ℕ
+explainAnswer c fits threshold j read = firstThatApplies (passTests c fits threshold read ++ (test 11 (not (ltb j (dataCount c))) ∷ []))
 
 -- ---- what each call leaves
 
@@ -214,3 +222,29 @@ notRefused c (p ∷ ps) st =
 -- "the visits of the list are then the run, and a refused pass makes none"
 abbrev pub callRun : Code → List PassCall → State → List Visit
 callRun c ps st = passes (dataSymbols c) (notRefused c ps st)
+
+-- ---- why a symbol is left (N6)
+
+-- the ground, h0, m0 and m1, and the bits of the estimates that equal h0
+pub record Explained : Type 0 where
+  pub ground : ℕ
+  pub leader : ℕ
+  pub lead : ℕ
+  pub next : ℕ
+  pub bits : ℕ
+
+-- "the tool names one of three grounds"; "It gives h0, m0 and m1, and, as bits from the lowest, which estimates equal h0, d(j) first, then by
+-- table order": of data symbol j, from S and D
+unfoldable pub explained : Code → ℕ → ℕ → State → Explained
+explained c threshold j st =
+    let es = estimates (checksOf c j) j st in
+    record { ground = ground threshold es; leader = leader es; lead = leadCount es; next = nextCount es; bits = equalBits es (leader es) }
+
+-- refused, the Rattle form returns zeros beside the number
+abbrev pub notExplained : Explained
+notExplained = record { ground = 0; leader = 0; lead = 0; next = 0; bits = 0 }
+
+-- explain only reads the result, S and D ("Nothing is altered"); `others` says whether the buffers that only one form of the call lends fit
+unfoldable pub explainOutcome : Code → Bool → ℕ → ℕ → State → Outcome Explained
+explainOutcome c others threshold j read =
+    outcome (explainAnswer c (others && stateFits c read) threshold j read) (explained c threshold j read) notExplained

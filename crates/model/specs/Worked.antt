@@ -10,9 +10,9 @@ use lib.Dec.{T}
 use lib.IntN.{ℤ, pos, negsuc}
 use Rattle.model.specs.Symbols.{sub, same, differ, count, distance, sumOver, sumBelow, joinBelow, tabulate, symbolsAt, subtractAt}
 use Rattle.model.specs.Code.{Code, codeOf, dataCount, checkCount, pageLength, branchAt, checksBy, checksOf, checkSumBy, checkSymbol, checkSymbols, codeWord, syndrome, shared, everyBelow, selfOrthogonal, differencesFrom, differencesBy, differences, allDifferent}
-use Rattle.model.specs.Vote.{firstOf, leader, leadCount, otherCount, nextCount, Votes, votes, margin}
+use Rattle.model.specs.Vote.{firstOf, leader, leadCount, otherCount, nextCount, Votes, votes, margin, ground, equalBits}
 use Rattle.model.specs.Decoder.{stateBy, State, Counts, estimates, isChange, change, changes, visit, after, changeCount, pass, passes, allows, thresholdsRun, opened, passesOf, run, distanceTo, decodedState, decodedCounts, marginsOf}
-use Rattle.model.specs.Calls.{firstThatApplies, within, positionsFit, allBelow, sizeTests, tableTests, pageTests, thresholdTests, thresholdTest, tableAnswer, encodeAnswer, decodeAnswer, openAnswer, passAnswer, Outcome, outcome, encodeOutcome, Decoded, decodeOutcome, openOutcome, Passed, passOutcome, PassCall, fitting, afterCalls, callChanges, notRefused}
+use Rattle.model.specs.Calls.{firstThatApplies, within, positionsFit, allBelow, sizeTests, tableTests, pageTests, thresholdTests, thresholdTest, tableAnswer, encodeAnswer, decodeAnswer, openAnswer, passTests, passAnswer, explainAnswer, Outcome, outcome, encodeOutcome, Decoded, decodeOutcome, openOutcome, Passed, passOutcome, PassCall, fitting, afterCalls, callChanges, notRefused, Explained, explained, explainOutcome}
 use Rattle.model.specs.Demand.{VisitFalls, WithinBound, smallest, DecodeRecovers}
 
 -- A row: a call's inputs, and what it must give.
@@ -31,6 +31,8 @@ data Row : Type 0 where
   passing : (c : Code) (others : Bool) (threshold : ℕ) (found : State) (given : Outcome (Passed ℕ)) → Row
   -- what a list of pass calls leaves, their changes, and the thresholds of those not refused
   called-in-turn : (c : Code) (calls : List PassCall) (found left : State) (changes : ℕ) (made : List ℕ) → Row
+  -- explain's number, ground, h0, m0, m1 and bits
+  explaining : (c : Code) (others : Bool) (threshold j : ℕ) (found : State) (given : Outcome Explained) → Row
   -- the vote over a list of estimates, its margin, and whether it is a change at a threshold
   voted : (es : List ℕ) (threshold : ℕ) (given : Votes) (margin : ℤ) (changed : Bool) → Row
 
@@ -49,8 +51,8 @@ lentState c = stateBy (lent (dataCount c)) (lent (checkCount c)) (lent (dataCoun
 
 -- the row with what the definitions give for its inputs
 computed : Row → Row
-unfolding firstThatApplies within positionsFit allBelow sizeTests tableTests pageTests thresholdTests thresholdTest tableAnswer encodeAnswer decodeAnswer openAnswer passAnswer
-    outcome encodeOutcome decodeOutcome openOutcome passOutcome afterCalls callChanges notRefused
+unfolding firstThatApplies within positionsFit allBelow sizeTests tableTests pageTests thresholdTests thresholdTest tableAnswer encodeAnswer decodeAnswer openAnswer passTests passAnswer explainAnswer
+    outcome encodeOutcome decodeOutcome openOutcome passOutcome afterCalls callChanges notRefused explained explainOutcome ground equalBits
     branchAt checksBy checksOf checkSumBy checkSymbol checkSymbols codeWord syndrome shared everyBelow selfOrthogonal differencesFrom differencesBy allDifferent
     firstOf leader leadCount otherCount nextCount estimates isChange change changes visit after changeCount pass passes allows thresholdsRun opened passesOf run distanceTo decodedState decodedCounts margin marginsOf
     sub same differ count distance sumOver sumBelow joinBelow tabulate symbolsAt subtractAt times
@@ -62,6 +64,7 @@ computed (tested c ts page m n) = tested c ts page m (decodeOutcome c page ts (l
 computed (opening c page g) = opening c page (openOutcome c page (lentState c))
 computed (passing c o t st g) = passing c o t st (passOutcome c o t st)
 computed (called-in-turn c ps st l n m) = called-in-turn c ps st (afterCalls c ps st) (callChanges c ps st) (notRefused c ps st)
+computed (explaining c o t j st g) = explaining c o t j st (explainOutcome c o t j st)
 computed (voted es t g m b) = voted es t (votes es) (margin es) (isChange t es)
 
 -- a code of one branch, as document 01 has them
@@ -145,10 +148,14 @@ openedSix = stateBy (7 ∷ zeros 12) (7 ∷ 7 ∷ 0 ∷ 0 ∷ 7 ∷ 0 ∷ 7 ∷ 
 passedSix : State
 passedSix = stateBy (zeros 13) (zeros 13) (249 ∷ zeros 12)
 
+-- what explain gives
+told : ℕ → ℕ → ℕ → ℕ → ℕ → ℕ → Outcome Explained
+told n g h m0 m1 bits = record { number = n; left = record { ground = g; leader = h; lead = m0; next = m1; bits = bits } }
+
 -- Rows that pin misreadings: case 14 tells a vote by absolute majority from the steps and pins the tie; a page of three checks tells votes
 -- taken from the syndrome as it was at the start of the pass.
 misreadings : List Row
-unfolding codeA twoRuns accepted found made openedSix passedSix vote times tabulate
+unfolding codeA twoRuns accepted found made told openedSix passedSix vote times tabulate
 misreadings =
     -- 14
     voted (2 ∷ 2 ∷ 1 ∷ 1 ∷ 0 ∷ []) 0 (vote 1 2 2 1) (negsuc 0) false
@@ -199,6 +206,17 @@ misreadings =
     ∷ passing (oneBranch 251 1 (0 ∷ [])) true 33 (stateBy (0 ∷ []) (0 ∷ []) (251 ∷ [])) (made 7 (stateBy (0 ∷ []) (0 ∷ []) (251 ∷ [])) 0)
     -- five calls, of which two are refused: each gets what the one before it left, and their changes are 1 in all
     ∷ called-in-turn codeA (fitting 3 ∷ fitting 33 ∷ record { threshold = 2; fits = false } ∷ fitting 2 ∷ fitting 2 ∷ []) openedSix passedSix 1 (3 ∷ 2 ∷ 2 ∷ [])
+    -- N6, on the same page: symbol 0 has estimates 0, 7, 7, 7, 7, whose lead 3 is not above 3 (ground 1) and above 2 (ground 3); the 7s are bits 1
+    -- to 4. Symbol 12 has 0, 0, 7, 0, 0: zero leads by 3 (ground 2), bits 0, 1, 3 and 4
+    ∷ explaining codeA true 3 0 openedSix (told 0 1 7 4 1 30)
+    ∷ explaining codeA true 2 0 openedSix (told 0 3 7 4 1 30)
+    ∷ explaining codeA true 2 12 openedSix (told 0 2 0 4 1 27)
+    -- in a tie h0 is the smallest: of 5 and 3 it is 3, bit 1
+    ∷ explaining (oneBranch 251 1 (0 ∷ [])) true 0 0 (stateBy (0 ∷ []) (3 ∷ []) (5 ∷ [])) (told 0 1 3 1 1 2)
+    -- 11 after all others
+    ∷ explaining codeA true 32 13 openedSix (told 11 0 0 0 0 0)
+    ∷ explaining codeA true 33 13 openedSix (told 9 0 0 0 0 0)
+    ∷ explaining codeA false 33 13 openedSix (told 6 0 0 0 0 0)
     ∷ []
 
 told-apart : map computed misreadings ≡ misreadings

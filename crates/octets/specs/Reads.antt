@@ -8,8 +8,8 @@ use native.Mathlib.Nat.{div-le-self, mul-le-mul-left}
 use native.Mathlib.Omega.{arith}
 use lib.Dec.{eqb}
 use lib.ListN.{length}
-use Rattle.model.specs.Bytes.{wordOf, marginBytes, bytesOf, cDecodeOutcome, cPassOutcome}
-use Rattle.model.specs.Calls.{firstThatApplies, within, branchesFit, runsFit, sizeTests, tableTests, pageTests, tableAnswer, encodeAnswer, syndromeAnswer, stateFits, decodeFits, decodeAnswer, openAnswer, passAnswer, outcome, encodeOutcome, syndromeOutcome, Decoded, openOutcome, Passed, passedState, passedChanges}
+use Rattle.model.specs.Bytes.{wordOf, marginBytes, bytesOf, cDecodeOutcome, cPassOutcome, explainedBytes, cExplainOutcome}
+use Rattle.model.specs.Calls.{firstThatApplies, within, branchesFit, runsFit, sizeTests, tableTests, pageTests, tableAnswer, encodeAnswer, syndromeAnswer, stateFits, decodeFits, decodeAnswer, openAnswer, passAnswer, outcome, encodeOutcome, syndromeOutcome, Decoded, openOutcome, Passed, passedState, passedChanges, passTests, explained, explainAnswer}
 use Rattle.model.specs.Code.{Code, codeOf, codeWord, syndrome}
 use Rattle.model.specs.Decoder.{State, opened, decodedState, decodedCounts, marginsOf}
 use Rattle.model.specs.Demand.{Encodes, DecodeFalls, PassFalls, DecodeRecovers}
@@ -100,7 +100,7 @@ module _ (q k b : ℕ) (xs ps : List ℕ) (e : xs ≡ kept ps) where
   pub pass-whole : (t : ℕ) (lent : State) (changes : List ℕ) (r : ℕ) (x : Passed (List ℕ))
       → record { number = r; left = x } ≡ cPassOutcome (codeOf q k b xs) t lent changes
       → (record { number = r; left = x } ≡ cPassOutcome (codeOf q k b ps) t lent changes) × (r ≡ 0 → PassFalls (codeOf q k b ps) t lent)
-  unfolding cPassOutcome passAnswer pageTests tableTests sizeTests
+  unfolding cPassOutcome passAnswer passTests pageTests tableTests sizeTests
   pass-whole t lent changes r x o =
       let others : Bool = eqb (length changes) 4 in
       let whole = o
@@ -108,6 +108,12 @@ module _ (q k b : ℕ) (xs ps : List ℕ) (e : xs ≡ kept ps) where
       (λ l. record { state = passedState (codeOf q k b l) t lent; changes = wordOf (passedChanges (codeOf q k b l) t lent) })
       (record { state = lent; changes = changes }) (λ l u. refused-first (sizeTests (codeOf q k b l)) _ u) in
       (whole, λ z. pass-falls (codeOf q k b ps) others t lent (sym (outcome-number _ _ _ r x whole) ∙ z))
+
+  pub explain-read : (t j : ℕ) (read : State) (answer : List ℕ) → cExplainOutcome (codeOf q k b xs) t j read answer ≡ cExplainOutcome (codeOf q k b ps) t j read answer
+  unfolding cExplainOutcome explainAnswer passTests pageTests tableTests sizeTests
+  explain-read t j read answer =
+      outcome-read (λ l. explainAnswer (codeOf q k b l) (eqb (length answer) 24 && stateFits (codeOf q k b l) read) t j read)
+      (λ l. explainedBytes (explained (codeOf q k b l) t j read)) answer (λ l u. refused-first (sizeTests (codeOf q k b l)) _ u)
 
   pub decode-read : (page ts : List ℕ) (lent : State) (margins counts : List ℕ)
       → cDecodeOutcome (codeOf q k b xs) page ts lent margins counts ≡ cDecodeOutcome (codeOf q k b ps) page ts lent margins counts

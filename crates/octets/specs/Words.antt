@@ -1,12 +1,12 @@
--- Four bytes a number, written from the front; the bytes of the counts, of the changes of a pass and of the margins.
+-- Four bytes a number, written from the front; the bytes of the counts, of the changes of a pass, of the answer of explain and of the margins.
 use mathlib.Core.Path.{_≡_, refl, ap, sym, _∙_}
 use mathlib.Core.List.{List, [], _∷_, _++_, append-nil, map}
-use Prim.Native.Nat.{ℕ, _+_, _*_, _≤_, _<_}
+use Prim.Native.Nat.{ℕ, _+_, _*_, _/_, _%_, _≤_, _<_}
 use native.Mathlib.Omega.{arith}
 use lib.IntN.{ℤ}
 use lib.ListN.{length, take, drop, drop-of-length-le, length-append}
 use lib.Seq.{sets, length-sets, sets-eq, take-at, take-all, length-take-le}
-use Rattle.model.specs.Bytes.{wordOf, twos, marginBytes, bytesOf}
+use Rattle.model.specs.Bytes.{wordOf, twos, marginBytes, bytesOf, explainedBytes}
 use Rattle.model.specs.Symbols.{tabulate}
 use Rattle.theory.specs.Margins.{margins-snoc}
 
@@ -24,6 +24,16 @@ counts-written d a b e f h =
 pub word-written : (d : List ℕ) (n : ℕ) → length d ≡ 4 → sets d 0 (wordOf n) ≡ wordOf n
 word-written d n h =
     sets-eq (wordOf n) d 0 (omega arith) ∙ ap (λ (l : List ℕ). wordOf n ++ l) (drop-of-length-le d {i = 4} (omega arith)) ∙ append-nil (wordOf n)
+
+-- ---- the answer of explain
+
+pub answer-written : (d : List ℕ) (g h m n bits : ℕ) → length d ≡ 24
+    → sets (sets (sets (sets (sets (sets d 0 (wordOf g)) 4 (wordOf h)) 8 (wordOf m)) 12 (wordOf n)) 16 (wordOf (bits % 4294967296))) 20 (wordOf (bits / 4294967296))
+    ≡ explainedBytes (record { ground = g; leader = h; lead = m; next = n; bits = bits })
+unfolding explainedBytes
+answer-written d g h m n bits e =
+    let vs : List ℕ = wordOf g ++ wordOf h ++ wordOf m ++ wordOf n ++ wordOf (bits % 4294967296) ++ wordOf (bits / 4294967296) in
+    sets-eq vs d 0 (omega arith) ∙ ap (λ (l : List ℕ). vs ++ l) (drop-of-length-le d {i = 24} (omega arith)) ∙ append-nil vs
 
 -- ---- the margins
 

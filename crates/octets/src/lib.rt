@@ -1,5 +1,5 @@
 // What the C calls read and write as bytes, low byte first: the positions of a table, the margins and the counts of a decode, the changes
-// of a pass.
+// of a pass, the answer of explain.
 use checks::Place;
 use params::Params;
 ghost use mathlib.Core.Path.{_≡_};
@@ -8,7 +8,7 @@ ghost use Prim.Native.Nat.{ℕ, _+_, _*_, _≤_};
 ghost use lib.IntN.{pos, _-ℤ_};
 ghost use lib.ListN.{length, take};
 ghost use lib.Seq.{sets};
-ghost use Rattle.model.specs.Bytes.{positionsOf, wordOf, twos, marginBytes, bytesOf};
+ghost use Rattle.model.specs.Bytes.{positionsOf, wordOf, twos, marginBytes, bytesOf, explainedBytes};
 ghost use Rattle.model.specs.Code.{dataCount};
 ghost use Rattle.model.specs.Decoder.{stateBy, marginsOf};
 ghost use Rattle.model.specs.Symbols.{tabulate};
@@ -80,6 +80,19 @@ pub fn put_changes(d: &mut [u8], changes: u32)
     ensures { λ _. ⌜ now (d .exit) ≡ wordOf changes ⌝ }
 {
     put_word(d, 0, changes);
+}
+
+// The 24 bytes of the answer of explain: four numbers, and the bits in two halves.
+pub fn put_answer(d: &mut [u8], ground: u32, leader: u32, lead: u32, next: u32, bits: u64)
+    requires { ⌜ length (now d) ≡ 24 ⌝ }
+    ensures { λ _. ⌜ now (d .exit) ≡ explainedBytes (record { ground = ground; leader = leader; lead = lead; next = next; bits = bits }) ⌝ }
+{
+    put_word(d, 0, ground);
+    put_word(d, 4, leader);
+    put_word(d, 8, lead);
+    put_word(d, 12, next);
+    put_word(d, 16, (bits % 4294967296) as u32);
+    put_word(d, 20, (bits / 4294967296) as u32);
 }
 
 // A signed number in two's complement.

@@ -3,15 +3,15 @@ ghost use mathlib.Core.Path.{_≡_};
 ghost use Rattle.model.specs.Code.{codeOf};
 ghost use Rattle.model.specs.Decoder.{stateBy, decodedCounts};
 ghost use Rattle.model.specs.Calls.{tableAnswer, encodeOutcome, syndromeOutcome, openOutcome};
-ghost use Rattle.model.specs.Bytes.{positionsOf, cDecodeOutcome, cPassOutcome};
+ghost use Rattle.model.specs.Bytes.{positionsOf, cDecodeOutcome, cPassOutcome, cExplainOutcome};
 ghost use Rattle.model.specs.Demand.{Encodes, DecodeFalls, DecodeRecovers, PassFalls};
 
 // The version: major times 10,000 plus minor times 100 plus patch.
 #[no_mangle]
 pub extern "C" fn qmtd_version() -> u32
-    ensures { λ r. ⌜ r ≡ 600 ⌝ }
+    ensures { λ r. ⌜ r ≡ 700 ⌝ }
 {
-    600
+    700
 }
 
 // Checks a code table.
@@ -148,5 +148,37 @@ pub extern "C" fn qmtd_pass(
         syndrome,
         difference,
         changes,
+    )
+}
+
+// Explains a data symbol.
+#[no_mangle]
+pub extern "C" fn qmtd_explain(
+    q: u32,
+    k: u32,
+    b: u32,
+    table: &[u8],
+    threshold: u32,
+    symbol: u32,
+    result: &[u8],
+    syndrome: &[u8],
+    difference: &[u8],
+    answer: &mut [u8],
+) -> u32
+    ensures { λ r. ⌜ record { number = r; left = now (answer .exit) }
+        ≡ cExplainOutcome (codeOf q k b (positionsOf (now (table .entry)))) threshold symbol
+        (stateBy (now (result .entry)) (now (syndrome .entry)) (now (difference .entry))) (now (answer .entry)) ⌝ }
+{
+    c_explainer::explain(
+        q,
+        k,
+        b,
+        table,
+        threshold,
+        symbol,
+        result,
+        syndrome,
+        difference,
+        answer,
     )
 }

@@ -1,6 +1,7 @@
 // Runs the reference pages in data/pages.bin through the Rattle calls, and prints for each group how many there are and how many came out wrong.
 // tests/reference/README.md has the format of the file.
 use decoder::Decoded;
+use explainer::Explained;
 ghost use mathlib.Core.Path.{_≡_};
 ghost use Prim.Native.Nat.{_≤_};
 ghost use lib.ListN.{length};
@@ -267,9 +268,14 @@ fn b_of(record: &[u8]) -> u32 {
     number_at(record, 24)
 }
 
-// The threshold of a pass.
+// The threshold of a pass or an explanation.
 fn threshold_of(record: &[u8]) -> u32 {
     number_at(record, 28)
+}
+
+// The symbol of an explanation.
+fn symbol_of(record: &[u8]) -> u32 {
+    number_at(record, 32)
 }
 
 // Has the record so many numbers and strings, and nothing behind the last?
@@ -488,6 +494,51 @@ fn pass_is_right(record: &[u8]) -> bool {
     )
 }
 
+// The number that two of 32 bits make.
+fn long_of(low: u32, high: u32) -> u64 {
+    (low as u64) + 4294967296 * (high as u64)
+}
+
+// The answer that an explanation handed back: as the record gives it, or else all 0.
+fn answer_is_due(got: Explained, record: &[u8], answer: Piece) -> bool {
+    let at = answer.written_at();
+    answer.len == 24
+        && got.ground == number_at(record, at)
+        && got.leader == number_at(record, skip(record, at, 4))
+        && got.lead == number_at(record, skip(record, at, 8))
+        && got.next == number_at(record, skip(record, at, 12))
+        && got.bits
+            == long_of(
+                number_at(record, skip(record, at, 16)),
+                number_at(record, skip(record, at, 20)),
+            )
+}
+
+// An explanation only reads the three buffers.
+fn explain_is_right(record: &[u8]) -> bool {
+    let table = Piece::first(record);
+    let result = table.next(record);
+    let syndrome = result.next(record);
+    let difference = syndrome.next(record);
+    let answer = difference.next(record);
+    let positions = read_positions(table.content(record));
+    let n = table.positions();
+    let got = explainer::explain(
+        q_of(record),
+        k_of(record),
+        b_of(record),
+        &positions[0..n],
+        threshold_of(record),
+        symbol_of(record),
+        result.content(record),
+        syndrome.content(record),
+        difference.content(record),
+    );
+    got.number == returned(record)
+        && answer_is_due(got, record, answer)
+        && is_whole(record, 5, 5, answer)
+}
+
 // A record that no function here can run came out wrong.
 fn is_unknown(call: u32) -> bool {
     print(b"\nno call has the number ");
@@ -504,6 +555,7 @@ fn is_right(record: &[u8]) -> bool {
         4 => decode_is_right(record),
         5 => open_is_right(record),
         6 => pass_is_right(record),
+        7 => explain_is_right(record),
         _ => is_unknown(call),
     }
 }

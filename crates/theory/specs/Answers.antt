@@ -10,7 +10,7 @@ use lib.Dec.{T, eqb, ltb, leb, eqb→eq, ltb→lt, lt→ltb, leb→le, le→leb}
 use lib.ListN.{length, take}
 use lib.Seq.{take-at}
 use borrow.Author.Tests.{lt-leb, le-ltb}
-use Rattle.model.specs.Calls.{Test, test, firstThatApplies, within, positionsFit, allBelow, branchesFit, runsFit, sizeTests, tableFits, tableTests, pageTests, thresholdTests, thresholdTest, stateFits, decodeFits, tableAnswer, encodeAnswer, decodeAnswer, openAnswer, stateSymbols, passAnswer}
+use Rattle.model.specs.Calls.{Test, test, firstThatApplies, within, positionsFit, allBelow, branchesFit, runsFit, sizeTests, tableFits, tableTests, pageTests, thresholdTests, thresholdTest, stateFits, decodeFits, tableAnswer, encodeAnswer, decodeAnswer, openAnswer, stateSymbols, passTests, passAnswer, explainAnswer}
 use Rattle.model.specs.Code.{Code, dataCount, checkCount, pageLength, checksEach, branchAt, checkSymbols, codeWord, dataOf, selfOrthogonal}
 use Rattle.model.specs.Decoder.{State}
 use Rattle.model.specs.Demand.{Encodes}
@@ -342,7 +342,7 @@ abbrev laterTests : Code → Bool → ℕ → State → List Test
 laterTests c fits t lent = test 6 (not fits) ∷ test 7 (not (allBelow (c .q) (stateSymbols lent))) ∷ test 9 (not (ltb t 33)) ∷ []
 
 tests-of : (c : Code) (fits : Bool) (t : ℕ) (lent : State) → passAnswer c fits t lent ≡ firstThatApplies (tableTests c ++ laterTests c fits t lent)
-unfolding passAnswer pageTests thresholdTest
+unfolding passAnswer passTests pageTests thresholdTest
 tests-of c fits t lent = ap firstThatApplies (append-assoc (tableTests c) (test 6 (not fits) ∷ test 7 (not (allBelow (c .q) (stateSymbols lent))) ∷ []) (thresholdTest t))
 
 -- where the table is accepted, they give its number
@@ -455,3 +455,27 @@ pass-takes c t lent e z l =
     pass-zero c (stateFits c lent) t lent e (rw (eqb-yes _ _ (z .len-result), eqb-yes _ _ (z .len-syndrome), eqb-yes _ _ (z .len-difference)) refl)
     (state-below (c .q) lent ∙ rw (below-all (c .q) (lent .result) (z .in-result), below-all (c .q) (lent .syndrome) (z .in-syndrome), below-all (c .q) (lent .difference) (z .in-difference)) refl)
     l
+
+-- ---- explain
+
+-- its number is that of a pass where that is not 0; else the test of the symbol's number gives it
+module _ (c : Code) (fits : Bool) (t j : ℕ) (read : State) where
+  pub explain-refused : passAnswer c fits t read ≢ 0 → explainAnswer c fits t j read ≡ passAnswer c fits t read
+  unfolding explainAnswer passAnswer
+  explain-refused n = refused-first (passTests c fits t read) _ n
+
+  explain-passed : passAnswer c fits t read ≡ 0 → explainAnswer c fits t j read ≡ firstThatApplies (test 11 (not (ltb j (dataCount c))) ∷ [])
+  unfolding explainAnswer passAnswer passTests pageTests tableTests sizeTests thresholdTest
+  explain-passed e = passed-first (passTests c fits t read) (test 11 (not (ltb j (dataCount c))) ∷ []) refl e
+
+  pub explain-beyond : passAnswer c fits t read ≡ 0 → dataCount c ≤ j → explainAnswer c fits t j read ≡ 11
+  explain-beyond e h = explain-passed e ∙ refused-by 11 (ltb j (dataCount c)) _ (le-ltb j (dataCount c) h)
+
+  pub explain-takes : passAnswer c fits t read ≡ 0 → j < dataCount c → explainAnswer c fits t j read ≡ 0
+  explain-takes e h = explain-passed e ∙ passed-by 11 (ltb j (dataCount c)) _ (is-true (ltb j (dataCount c)) (lt→ltb j (dataCount c) h)) ∙ nothing-applies
+
+  pub explain-taken : explainAnswer c fits t j read ≡ 0 → (passAnswer c fits t read ≡ 0) × (j < dataCount c)
+  unfolding explainAnswer passAnswer passTests pageTests tableTests sizeTests thresholdTest
+  explain-taken e =
+      let f = taken-first (passTests c fits t read) (test 11 (not (ltb j (dataCount c))) ∷ []) refl e in
+      (f .0, ltb→lt j (dataCount c) (subst T (sym (taken-by 10 (ltb j (dataCount c)) [] (f .1) .0)) tt))

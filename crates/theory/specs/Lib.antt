@@ -20,6 +20,7 @@ pub mod Schedule
 pub mod Decoding
 pub mod Moments
 pub mod PassCalls
+pub mod Explaining
 pub mod Integers
 pub mod Margins
 pub mod Statements

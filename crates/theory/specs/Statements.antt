@@ -3,28 +3,30 @@ use mathlib.Core.Path.{_≡_, refl, ap, sym, _∙_, subst}
 use mathlib.Core.Logic.{_≢_, _↔_}
 use mathlib.Core.Bool.{Bool, true, false, _&&_}
 use mathlib.Core.List.{List, [], _∷_, _++_, map}
-use Prim.Native.Nat.{ℕ, suc, _+_, _%_, _≤_, _<_}
+use Prim.Native.Nat.{ℕ, suc, _+_, _/_, _%_, _^_, _≤_, _<_}
 use native.Mathlib.Nat.{one-mul}
 use native.Mathlib.Omega.{arith}
+use lib.Count.{ones}
 use lib.Dec.{eqb}
 use lib.IntN.{pos, negℤ, _-ℤ_}
 use lib.ListN.{length, getD, length-map}
 use lib.Signed.{_≤ℤ_}
-use Rattle.model.specs.Bytes.{wordOf, cPassOutcome}
-use Rattle.model.specs.Calls.{firstThatApplies, stateFits, decodeFits, tableAnswer, decodeAnswer, openAnswer, passAnswer, outcome, openOutcome, Passed, passedState, passedChanges, passOutcome, PassCall, fitting, called, afterCalls, callChanges, notRefused, callRun}
+use Rattle.model.specs.Bytes.{wordOf, cPassOutcome, explainedBytes, cExplainOutcome}
+use Rattle.model.specs.Calls.{firstThatApplies, stateFits, decodeFits, tableAnswer, decodeAnswer, openAnswer, passAnswer, explainAnswer, outcome, openOutcome, Passed, passedState, passedChanges, passOutcome, PassCall, fitting, called, afterCalls, callChanges, notRefused, callRun, explained, explainOutcome}
 use Rattle.model.specs.Code.{Code, codeOf, dataCount, checkCount, pageLength, checksEach, checksBy, checksOf, checkSumBy, checkSymbol, checkSymbols, codeWord, dataOf, receivedChecks, SelfOrthogonal, differencesBy, differences, allDifferent}
-use Rattle.model.specs.Decoder.{State, Visit, estimates, changes, visit, after, changeCount, passes, dataSymbols, opened, passesOf, run, distanceTo, Counts, decodedState, decodedCounts, marginsOf, pass, isIdle, none, thresholdsRun, firstSmaller, stateWeight}
+use Rattle.model.specs.Decoder.{State, Visit, estimates, change, changes, visit, after, changeCount, passes, dataSymbols, opened, passesOf, run, distanceTo, Counts, decodedState, decodedCounts, marginsOf, pass, isIdle, none, thresholdsRun, firstSmaller, stateWeight}
 use Rattle.model.specs.Demand.{VisitFalls, Falls, RunFalls, DecodeFalls, PassFalls, Recovers, DecodeRecovers, smallest}
 use Rattle.model.specs.Limits.{TableLimits, Limits}
-use Rattle.model.specs.Symbols.{choose, count, tabulate, addEach, subEach}
-use Rattle.model.specs.Vote.{leader, leadCount, nextCount, votes, margin}
-use Rattle.theory.specs.Answers.{table-accepted, table-accepts, table-usable, Opens, Taken, decode-taken, decode-opens, open-taken, pass-taken}
+use Rattle.model.specs.Symbols.{choose, same, count, tabulate, addEach, subEach}
+use Rattle.model.specs.Vote.{leader, leadCount, nextCount, votes, margin, ground, equalBits}
+use Rattle.theory.specs.Answers.{table-accepted, table-accepts, table-usable, Opens, Taken, decode-taken, decode-opens, open-taken, pass-taken, explain-takes, explain-taken}
 use Rattle.theory.specs.Branches.{orthogonal-differences}
 use Rattle.theory.specs.Codes.{code-incidence, check-symbol, check-symbols}
 use Rattle.theory.specs.Counting.{eqb-yes, eqb-no, All, length-symbolsAt}
 use Rattle.theory.specs.Decoding.{code-falls, code-received, code-opened-sized, code-sized, code-tied, code-distance, code-recovers, code-minima}
 use Rattle.theory.specs.Distance.{length-tabulate, tabulate-ext}
-use Rattle.theory.specs.Falling.{InRange, visit-no, weight-falls, falls-spent, falls-at}
+use Rattle.theory.specs.Explaining.{Ground, ground-is, bits-at, bits-ones, bits-below}
+use Rattle.theory.specs.Falling.{InRange, visit-no, visit-yes, weight-falls, falls-spent, falls-at}
 use Rattle.theory.specs.Margins.{margin-low, margin-high, margin-top, margin-bottom, other-zero, margin-stays, margin-at}
 use Rattle.theory.specs.Moments.{result-is, syndrome-is, changes-few, weight-few}
 use Rattle.theory.specs.OneBranch.{firstTests, run-all, checks-all, check-all, differences-all, answer-all}
@@ -389,3 +391,37 @@ decode-split c others page ts lent e = (
         calls-taken c (t .0) calls st (code-opened-sized c (t .1 .usable) page (t .1 .whole))
         ∙ taken-all (passesOf c ts page)
         (runs-of (c .q) (checksOf c) (dataSymbols c) (λ t. t < 33) none ts (all-small 33 ts (decode-taken c others page ts lent e .small)) st)
+
+-- ---- 8. why a symbol is left (N6)
+
+-- The ground of a data symbol at a threshold is 1 where the lead m0 − m1 is not above it, 2 where it is and the leader is 0, 3 where it is and the
+-- leader is not 0 (Ground). It is 3 if and only if a visit now is a change, and then the visit subtracts this leader; else the visit alters nothing.
+pub record GroundMeans (q : ℕ) (checks : ℕ → List ℕ) (v : Visit) (st : State) (es : List ℕ) : Type 0 where
+  pub vote : Ground (v .threshold) es (ground (v .threshold) es) (changes checks v st)
+  pub subtracts : ground (v .threshold) es ≡ 3 → visit q checks v st ≡ change q (checks (v .symbol)) (v .symbol) (leader es) st
+  pub leaves : ground (v .threshold) es ≢ 3 → visit q checks v st ≡ st
+
+pub ground-means : (q : ℕ) (checks : ℕ → List ℕ) (v : Visit) (st : State) → GroundMeans q checks v st (estimates (checks (v .symbol)) (v .symbol) st)
+unfolding changes
+ground-means q checks v st =
+    let g = ground-is (v .threshold) (estimates (checks (v .symbol)) (v .symbol) st) in
+    record {
+      vote = g;
+      subtracts = (λ e. visit-yes q checks v st (g .acts .0 e));
+      leaves = (λ n. visit-no q checks v st (g .rests n));
+    }
+
+-- Bit i of the answer is set where estimate i equals the leader; the bits set number m0, and none stands beyond the J + 1 estimates.
+pub record BitsMean (es : List ℕ) (bits : ℕ) : Type 0 where
+  pub bit : (i : ℕ) → i < length es → bits / 2 ^ i % 2 ≡ same (getD es i 0) (leader es)
+  pub set : ones bits ≡ leadCount es
+  pub few : bits < 2 ^ length es
+
+pub bits-mean : (es : List ℕ) → BitsMean es (equalBits es (leader es))
+unfolding leadCount
+bits-mean es = record { bit = bits-at es (leader es); set = bits-ones es (leader es); few = bits-below es (leader es) }
+
+-- Explain answers 0 if and only if a pass on these buffers with this threshold would, and the data symbol is there.
+pub explain-accepted : (c : Code) (fits : Bool) (threshold j : ℕ) (read : State)
+    → (explainAnswer c fits threshold j read ≡ 0) ↔ ((passAnswer c fits threshold read ≡ 0) × (j < dataCount c))
+explain-accepted c fits t j read = (explain-taken c fits t j read, λ p. explain-takes c fits t j read (p .0) (p .1))

@@ -1,0 +1,84 @@
+-- What explain tells of estimates, the bits from the last estimate on, and the place of a data symbol found branch by branch.
+use mathlib.Core.Path.{_≡_, refl, ap, sym, _∙_}
+use mathlib.Core.List.{List, _∷_}
+use Prim.Native.Nat.{ℕ, suc, _+_, _*_, _-_, _/_, _<_, _≤_}
+use native.Mathlib.Nat.{mul-le-mul-right, mul-le-mul-left}
+use native.Mathlib.Numerals.{add-one}
+use native.Mathlib.Omega.{arith}
+use lib.Arith.{digits-div}
+use lib.ListN.{length, getD, drop, drop-of-length-le, length-drop}
+use lib.Seq.{drop-cons}
+use Rattle.model.specs.Symbols.{same}
+use Rattle.model.specs.Vote.{leader, leadCount, nextCount, ground, equalBits}
+use Rattle.theory.specs.Explaining.{bits-cons, bits-nil, bits-small}
+use Rattle.checks.specs.declared.Place.{Place}
+use Rattle.grounds.specs.declared.Told.{Told}
+
+abbrev pub toldOf : ℕ → List ℕ → Told
+toldOf t es = record { ground = ground t es; leader = leader es; lead = leadCount es; next = nextCount es; bits = equalBits es (leader es) }
+
+-- ---- the bits of the estimates from place i on
+
+-- they are b
+pub record FromBits (es : List ℕ) (h i b : ℕ) : Type 0 where
+  pub inside : i ≤ length es
+  pub are : b ≡ equalBits (drop i es) h
+
+pub from-end : (es : List ℕ) (h i : ℕ) → i ≡ length es → FromBits es h i 0
+from-end es h i e = record {
+  inside = omega arith;
+  are = sym (ap (λ (l : List ℕ). equalBits l h) (drop-of-length-le es {i = i} (omega arith)) ∙ bits-nil h);
+}
+
+-- one estimate more, at place i
+pub from-turn : (es : List ℕ) (h i j b x : ℕ) → FromBits es h j b → j ≡ i + 1 → x ≡ same (getD es i 0) h → FromBits es h i (b + b + x)
+from-turn es h i j b x w e f =
+    let l : i < length es = omega (arith, w .inside) in
+    let s : drop i es ≡ getD es i 0 ∷ drop j es = drop-cons es i 0 l ∙ ap (λ (n : ℕ). getD es i 0 ∷ drop n es) (let z : suc i ≡ j = omega arith in z) in
+    record {
+      inside = omega arith;
+      are = (let y : b + b + x ≡ equalBits (drop j es) h * 2 + same (getD es i 0) h = omega (arith, w .are) in y)
+          ∙ sym (ap (λ (l : List ℕ). equalBits l h) s ∙ bits-cons (getD es i 0) (drop j es) h);
+    }
+
+pub from-small : (es : List ℕ) (h i b : ℕ) → length es ≤ 33 → FromBits es h i b → b ≤ 8589934591
+from-small es h i b l w = omega (arith, w .are, bits-small (drop i es) h (omega (arith, length-drop i es)))
+
+pub from-all : (es : List ℕ) (h i b : ℕ) → i ≤ 0 → FromBits es h i b → b ≡ equalBits es h
+from-all es h i b z w = w .are ∙ ap (λ (n : ℕ). equalBits (drop n es) h) (let y : i ≡ 0 = omega arith in y)
+
+-- ---- the place of a data symbol, of branches of k symbols and runs of `each` positions
+
+abbrev pub placeBy : ℕ → ℕ → ℕ → Place
+placeBy k each j = record { symbol = j; start = j / k * k; end = j / k * k + k; first = j / k * each; last = j / k * each + each }
+
+-- the branches before `start` are passed, whose runs end at `first`
+pub record Walked (k each j start first : ℕ) : Type 0 where
+  pub branch : ℕ
+  pub start-is : start ≡ branch * k
+  pub first-is : first ≡ branch * each
+  pub low : start ≤ j
+
+pub walked-none : (k each j : ℕ) → Walked k each j 0 0
+walked-none k each j = record { branch = 0; start-is = omega arith; first-is = omega arith; low = omega arith }
+
+module _ {k each j start first : ℕ} (w : Walked k each j start first) where
+  pub walked-on : start + k ≤ j → Walked k each j (start + k) (first + each)
+  walked-on h = record { branch = suc (w .branch); start-is = omega (arith, w .start-is); first-is = omega (arith, w .first-is); low = h }
+
+  -- the runs passed are few
+  pub walked-few : 1 ≤ k → each ≤ 256 → j < 4096 → first ≤ 1048576
+  walked-few p e l =
+      let b : w .branch ≤ 4096 = omega (arith, mul-le-mul-left (w .branch) p, w .start-is, w .low) in
+      omega (arith, w .first-is, mul-le-mul-right each b, mul-le-mul-left 4096 e)
+
+  pub walked-here : j < start + k
+      → _≡_ {A = Place} (record { symbol = j; start = start; end = start + k; first = first; last = first + each }) (placeBy k each j)
+  walked-here h =
+      let i : ℕ = j - start in
+      let e : j ≡ w .branch * k + i = omega (arith, w .start-is, w .low) in
+      let l : i < k = omega (arith, w .low) in
+      let d : w .branch ≡ j / k = sym (ap (λ (x : ℕ). x / k) e ∙ digits-div (w .branch) {m = k} l) in
+      let s : start ≡ j / k * k = w .start-is ∙ ap (λ (x : ℕ). x * k) d in
+      let f : first ≡ j / k * each = w .first-is ∙ ap (λ (x : ℕ). x * each) d in
+      λ o. record { symbol = j; start = s o; end = s o + k; first = f o; last = f o + each }
