@@ -44,7 +44,7 @@ pub fn margin_at(code: Params, positions: &[u16], j: usize, own: u8, others: u8,
 }
 
 // The margin of every data symbol, branch by branch, from S and D and the zeros at the checks of each.
-pub fn write_margins(
+fn write_margins(
     code: Params,
     positions: &[u16],
     zeros: &[u8],
@@ -74,7 +74,7 @@ pub fn write_margins(
 }
 
 // The margin of every data symbol where S and D are 0: all its n estimates are.
-pub fn write_firm(n: u8, margins: &mut [i32])
+fn write_firm(n: u8, margins: &mut [i32])
     requires { ⌜ n ≤ 33 ⌝ }
     ensures { λ _. ⌜ now (margins .exit) ≡ map (λ j. pos n -ℤ pos 0) (tabulate (length (now (margins .entry))) (λ j. j)) ⌝ }
 {

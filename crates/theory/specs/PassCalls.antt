@@ -12,7 +12,7 @@ use Rattle.model.specs.Symbols.{choose}
 use Rattle.theory.specs.Answers.{and-true, table-usable, pass-taken, pass-takes, pass-six}
 use Rattle.theory.specs.Codes.{code-incidence}
 use Rattle.theory.specs.Counting.{is-true, eqb-yes, eqb-no, All}
-use Rattle.theory.specs.Falling.{choose-case, after-sized}
+use Rattle.theory.specs.Falling.{after-sized}
 use Rattle.theory.specs.Runs.{after-append, changes-append}
 use Rattle.theory.specs.Steps.{Sized}
 

@@ -11,8 +11,8 @@ use lib.Dec.{eqb}
 use lib.IntN.{pos, negℤ, _-ℤ_}
 use lib.ListN.{length, getD, length-map}
 use lib.Signed.{_≤ℤ_}
-use Rattle.model.specs.Bytes.{wordOf, cPassOutcome, explainedBytes, cExplainOutcome}
-use Rattle.model.specs.Calls.{firstThatApplies, stateFits, decodeFits, tableAnswer, decodeAnswer, openAnswer, passAnswer, explainAnswer, outcome, openOutcome, Passed, passedState, passedChanges, passOutcome, PassCall, fitting, called, afterCalls, callChanges, notRefused, callRun, explained, explainOutcome}
+use Rattle.model.specs.Bytes.{wordOf, cPassOutcome}
+use Rattle.model.specs.Calls.{firstThatApplies, stateFits, decodeFits, tableAnswer, decodeAnswer, openAnswer, passAnswer, explainAnswer, outcome, openOutcome, Passed, passedState, passedChanges, passOutcome, PassCall, fitting, called, afterCalls, callChanges, notRefused, callRun}
 use Rattle.model.specs.Code.{Code, codeOf, dataCount, checkCount, pageLength, checksEach, checksBy, checksOf, checkSumBy, checkSymbol, checkSymbols, codeWord, dataOf, receivedChecks, SelfOrthogonal, differencesBy, differences, allDifferent}
 use Rattle.model.specs.Decoder.{State, Visit, estimates, change, changes, visit, after, changeCount, passes, dataSymbols, opened, passesOf, run, distanceTo, Counts, decodedState, decodedCounts, marginsOf, pass, isIdle, none, thresholdsRun, firstSmaller, stateWeight}
 use Rattle.model.specs.Demand.{VisitFalls, Falls, RunFalls, DecodeFalls, PassFalls, Recovers, DecodeRecovers, smallest}

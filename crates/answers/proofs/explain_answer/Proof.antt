@@ -1,6 +1,6 @@
 -- `explain_answer` walks the tests of a pass, and then 11.
 use borrow.Author.Needs.{needs}
-use mathlib.Core.Path.{_≡_, sym, _∙_}
+use mathlib.Core.Path.{sym, _∙_}
 use native.Mathlib.Omega.{arith}
 use Rattle.theory.specs.Answers.{explain-refused, explain-beyond, explain-takes}
 use Rattle.answers.proofs.explain_answer.Statement.{statement}

@@ -2,7 +2,6 @@
 use borrow.Author.Needs.{needs}
 use mathlib.Core.Path.{_≡_, sym, _∙_, ap}
 use mathlib.Core.Bool.{Bool, _&&_}
-use mathlib.Core.List.{[], _∷_}
 use Prim.Native.Nat.{ℕ, _*_, _≤_}
 use lib.Dec.{eqb}
 use lib.ListN.{length}
@@ -17,7 +16,6 @@ use Rattle.tally.specs.declared.Tally.{Tally}
 use Rattle.theory.specs.Answers.{PassTaken, pass-taken, table-usable}
 use Rattle.theory.specs.Outcomes.{left-as-lent, left-as-done}
 use Rattle.theory.specs.Statements.{pass-falls}
-use Rattle.visits.specs.Progress.{Progress, progress}
 use Rattle.passing.specs.Once.{taken-ready, once-state, once-changes}
 use Rattle.passing.proofs.pass_with.Statement.{statement}
 use Rattle.passing.proofs.pass_with.Tie as tie
