@@ -1,6 +1,6 @@
 -- What the C calls read and write as bytes, low byte first: the positions of a table, the margins and the counts of a decode, the changes of a pass, the
 -- answer of explain.
-use mathlib.Core.Bool.{_&&_}
+use mathlib.Core.Bool.{Bool, _&&_}
 use mathlib.Core.List.{List, [], _∷_, _++_}
 use Prim.Native.Nat.{ℕ, _+_, _-_, _*_, _/_, _%_}
 use lib.Dec.{eqb}
@@ -9,7 +9,7 @@ use lib.ListN.{length, getD}
 use Rattle.model.specs.Symbols.{choose, tabulate}
 use Rattle.model.specs.Code.{Code, dataCount}
 use Rattle.model.specs.Decoder.{State, Counts, decodedState, decodedCounts, marginsOf}
-use Rattle.model.specs.Calls.{Outcome, outcome, Decoded, Passed, stateFits, decodeFits, decodeAnswer, passAnswer, passedState, passedChanges, Explained, explained, explainAnswer}
+use Rattle.model.specs.Calls.{Outcome, outcome, Decoded, WithCounters, countersFit, Passed, stateFits, decodeFits, decodeAnswer, passAnswer, passedState, passedChanges, Explained, explained, explainAnswer}
 
 -- the two-byte number i of a byte string
 abbrev pub positionAt : List ℕ → ℕ → ℕ
@@ -38,13 +38,19 @@ unfoldable pub marginBytes : List ℤ → List ℕ
 marginBytes [] = []
 marginBytes (m ∷ ms) = wordOf (twos m) ++ marginBytes ms
 
--- "counts 16 bytes, in the C form only": the C form of decode also lends the counts, and the margins are 4 bytes a data symbol
-unfoldable pub cDecodeOutcome : Code → List ℕ → List ℕ → State → List ℕ → List ℕ → Outcome (Decoded (List ℕ) (List ℕ))
-cDecodeOutcome c page thresholds lent margins counts =
+-- "counts 16 bytes, in the C form only": the C form of decode also lends the counts, and the margins are 4 bytes a data symbol; `others` as in
+-- `decodeOutcome`
+unfoldable pub cDecodeOutcome : Code → Bool → List ℕ → List ℕ → State → List ℕ → List ℕ → Outcome (Decoded (List ℕ) (List ℕ))
+cDecodeOutcome c others page thresholds lent margins counts =
     let st = decodedState c thresholds page in
-    outcome (decodeAnswer c ((eqb (length margins) (4 * dataCount c) && eqb (length counts) 16) && decodeFits c page lent) page thresholds)
+    outcome (decodeAnswer c ((others && (eqb (length margins) (4 * dataCount c) && eqb (length counts) 16)) && decodeFits c page lent) page thresholds)
     (record { state = st; margins = marginBytes (marginsOf c st); counts = bytesOf (decodedCounts c thresholds page) })
     (record { state = lent; margins = margins; counts = counts })
+
+-- the C form of decode with counters (N7)
+unfoldable pub cDecodeCountersOutcome : Code → List ℕ → List ℕ → State → List ℕ → List ℕ → List ℕ → WithCounters (Outcome (Decoded (List ℕ) (List ℕ)))
+cDecodeCountersOutcome c page thresholds lent margins counters counts =
+    record { given = cDecodeOutcome c (countersFit counters) page thresholds lent margins counts; counters = counters }
 
 -- the C form of a pass writes its changes into 4 lent bytes (N5)
 unfoldable pub cPassOutcome : Code → ℕ → State → List ℕ → Outcome (Passed (List ℕ))

@@ -92,6 +92,10 @@ stateFits c lent =
 abbrev pub decodeFits : Code → List ℕ → State → Bool
 decodeFits c page lent = eqb (length page) (pageLength c) && stateFits c lent
 
+-- "256 lent one-byte counters, all zero before"; "6 also covers counters that aren't 256 long and zero" (N7)
+unfoldable pub countersFit : List ℕ → Bool
+countersFit counters = eqb (length counters) 256 && allBelow 1 counters
+
 -- ---- the numbers
 
 unfoldable pub tableAnswer : Code → ℕ
@@ -156,13 +160,24 @@ abbrev pub noCounts : Counts
 noCounts = record { passes = 0; changes = 0; start = 0; end = 0 }
 
 -- "Afterwards the lent buffers hold the result, S and D"; "Decode fills one more lent buffer from the S and D it hands back";
--- 6 covers a margin buffer that isn't b times k long
-unfoldable pub decodeOutcome : Code → List ℕ → List ℕ → State → List ℤ → Outcome (Decoded (List ℤ) Counts)
-decodeOutcome c page thresholds lent margins =
+-- 6 covers a margin buffer that isn't b times k long; `others` says whether the buffers that only another form of the call lends fit
+unfoldable pub decodeOutcome : Code → Bool → List ℕ → List ℕ → State → List ℤ → Outcome (Decoded (List ℤ) Counts)
+decodeOutcome c others page thresholds lent margins =
     let st = decodedState c thresholds page in
-    outcome (decodeAnswer c (eqb (length margins) (dataCount c) && decodeFits c page lent) page thresholds)
+    outcome (decodeAnswer c ((others && eqb (length margins) (dataCount c)) && decodeFits c page lent) page thresholds)
     (record { state = st; margins = marginsOf c st; counts = decodedCounts c thresholds page })
     (record { state = lent; margins = margins; counts = noCounts })
+
+-- what decode with counters gives, and what the counters hold afterwards
+pub record WithCounters (A : Type 0) : Type 0 where
+  pub given : A
+  pub counters : List ℕ
+
+-- "so decode with counters gives what decode gives"; the counters are "all zero before and after", and where they are not zero before, the call
+-- is refused and leaves them (N7)
+unfoldable pub decodeCountersOutcome : Code → List ℕ → List ℕ → State → List ℤ → List ℕ → WithCounters (Outcome (Decoded (List ℤ) Counts))
+decodeCountersOutcome c page thresholds lent margins counters =
+    record { given = decodeOutcome c (countersFit counters) page thresholds lent margins; counters = counters }
 
 -- "Let one call open a page, filling result, S and D" (N5)
 unfoldable pub openOutcome : Code → List ℕ → State → Outcome State

@@ -10,9 +10,9 @@ use lib.Dec.{T}
 use lib.IntN.{ℤ, pos, negsuc}
 use Rattle.model.specs.Symbols.{sub, same, differ, count, distance, sumOver, sumBelow, joinBelow, tabulate, symbolsAt, subtractAt}
 use Rattle.model.specs.Code.{Code, codeOf, dataCount, checkCount, pageLength, branchAt, checksBy, checksOf, checkSumBy, checkSymbol, checkSymbols, codeWord, syndrome, shared, everyBelow, selfOrthogonal, differencesFrom, differencesBy, differences, allDifferent}
-use Rattle.model.specs.Vote.{firstOf, leader, leadCount, otherCount, nextCount, Votes, votes, margin, ground, equalBits}
+use Rattle.model.specs.Vote.{firstBy, otherBy, leader, leadCount, nextCount, Votes, votes, votesBy, counted, votesRead, margin, ground, equalBits}
 use Rattle.model.specs.Decoder.{stateBy, State, Counts, estimates, isChange, change, changes, visit, after, changeCount, pass, passes, allows, thresholdsRun, opened, passesOf, run, distanceTo, decodedState, decodedCounts, marginsOf}
-use Rattle.model.specs.Calls.{firstThatApplies, within, positionsFit, allBelow, sizeTests, tableTests, pageTests, thresholdTests, thresholdTest, tableAnswer, encodeAnswer, decodeAnswer, openAnswer, passTests, passAnswer, explainAnswer, Outcome, outcome, encodeOutcome, Decoded, decodeOutcome, openOutcome, Passed, passOutcome, PassCall, fitting, afterCalls, callChanges, notRefused, Explained, explained, explainOutcome}
+use Rattle.model.specs.Calls.{firstThatApplies, within, positionsFit, allBelow, sizeTests, tableTests, pageTests, thresholdTests, thresholdTest, tableAnswer, encodeAnswer, decodeAnswer, openAnswer, passTests, passAnswer, explainAnswer, Outcome, outcome, encodeOutcome, Decoded, decodeOutcome, WithCounters, countersFit, decodeCountersOutcome, openOutcome, Passed, passOutcome, PassCall, fitting, afterCalls, callChanges, notRefused, Explained, explained, explainOutcome}
 use Rattle.model.specs.Demand.{VisitFalls, WithinBound, smallest, DecodeRecovers}
 
 -- A row: a call's inputs, and what it must give.
@@ -33,6 +33,10 @@ data Row : Type 0 where
   called-in-turn : (c : Code) (calls : List PassCall) (found left : State) (changes : ℕ) (made : List ℕ) → Row
   -- explain's number, ground, h0, m0, m1 and bits
   explaining : (c : Code) (others : Bool) (threshold j : ℕ) (found : State) (given : Outcome Explained) → Row
+  -- decode's number, buffers, margins and counts with these counters, and the counters afterwards
+  withCounters : (c : Code) (thresholds page counters : List ℕ) (given : WithCounters (Outcome (Decoded (List ℤ) Counts))) → Row
+  -- the n counters when a list of estimates is counted, and the vote read from them
+  countedBy : (n : ℕ) (es : List ℕ) (counters : List ℕ) (given : Votes) → Row
   -- the vote over a list of estimates, its margin, and whether it is a change at a threshold
   voted : (es : List ℕ) (threshold : ℕ) (given : Votes) (margin : ℤ) (changed : Bool) → Row
 
@@ -52,19 +56,23 @@ lentState c = stateBy (lent (dataCount c)) (lent (checkCount c)) (lent (dataCoun
 -- the row with what the definitions give for its inputs
 computed : Row → Row
 unfolding firstThatApplies within positionsFit allBelow sizeTests tableTests pageTests thresholdTests thresholdTest tableAnswer encodeAnswer decodeAnswer openAnswer passTests passAnswer explainAnswer
-    outcome encodeOutcome decodeOutcome openOutcome passOutcome afterCalls callChanges notRefused explained explainOutcome ground equalBits
+    outcome encodeOutcome decodeOutcome countersFit decodeCountersOutcome openOutcome passOutcome afterCalls callChanges notRefused explained explainOutcome ground equalBits
     branchAt checksBy checksOf checkSumBy checkSymbol checkSymbols codeWord syndrome shared everyBelow selfOrthogonal differencesFrom differencesBy allDifferent
-    firstOf leader leadCount otherCount nextCount estimates isChange change changes visit after changeCount pass passes allows thresholdsRun opened passesOf run distanceTo decodedState decodedCounts margin marginsOf
+    firstBy otherBy leader leadCount nextCount estimates isChange change changes visit after changeCount pass passes allows thresholdsRun opened passesOf run distanceTo decodedState decodedCounts margin marginsOf
+    counted votesBy votesRead
     sub same differ count distance sumOver sumBelow joinBelow tabulate symbolsAt subtractAt times
 computed (table c a d) = table c (tableAnswer c) (allDifferent (differences c))
 computed (encoded c u g) = encoded c u (encodeOutcome c u (lent (pageLength c)))
 computed (decoded c ts page g) =
-    decoded c ts page (decodeOutcome c page ts (lentState c) (map pos (lent (dataCount c))))
-computed (tested c ts page m n) = tested c ts page m (decodeOutcome c page ts (lentState c) (map pos (lent m)) .number)
+    decoded c ts page (decodeOutcome c true page ts (lentState c) (map pos (lent (dataCount c))))
+computed (tested c ts page m n) = tested c ts page m (decodeOutcome c true page ts (lentState c) (map pos (lent m)) .number)
 computed (opening c page g) = opening c page (openOutcome c page (lentState c))
 computed (passing c o t st g) = passing c o t st (passOutcome c o t st)
 computed (called-in-turn c ps st l n m) = called-in-turn c ps st (afterCalls c ps st) (callChanges c ps st) (notRefused c ps st)
 computed (explaining c o t j st g) = explaining c o t j st (explainOutcome c o t j st)
+computed (withCounters c ts page counters g) =
+    withCounters c ts page counters (decodeCountersOutcome c page ts (lentState c) (map pos (lent (dataCount c))) counters)
+computed (countedBy n es counters g) = countedBy n es (counted n es) (votesRead (counted n es) es)
 computed (voted es t g m b) = voted es t (votes es) (margin es) (isChange t es)
 
 -- a code of one branch, as document 01 has them
@@ -152,10 +160,22 @@ passedSix = stateBy (zeros 13) (zeros 13) (249 ∷ zeros 12)
 told : ℕ → ℕ → ℕ → ℕ → ℕ → ℕ → Outcome Explained
 told n g h m0 m1 bits = record { number = n; left = record { ground = g; leader = h; lead = m0; next = m1; bits = bits } }
 
+-- a decode of code A that is refused leaves what it was lent
+refusedA : ℕ → Outcome (Decoded (List ℤ) Counts)
+unfolding codeA times
+refusedA n = record {
+  number = n;
+  left = record {
+    state = lentState codeA;
+    margins = map pos (lent 13);
+    counts = record { passes = 0; changes = 0; start = 0; end = 0 };
+  };
+}
+
 -- Rows that pin misreadings: case 14 tells a vote by absolute majority from the steps and pins the tie; a page of three checks tells votes
 -- taken from the syndrome as it was at the start of the pass.
 misreadings : List Row
-unfolding codeA twoRuns accepted found made told openedSix passedSix vote times tabulate
+unfolding codeA twoRuns accepted found made told refusedA openedSix passedSix vote times tabulate
 misreadings =
     -- 14
     voted (2 ∷ 2 ∷ 1 ∷ 1 ∷ 0 ∷ []) 0 (vote 1 2 2 1) (negsuc 0) false
@@ -217,6 +237,14 @@ misreadings =
     ∷ explaining codeA true 32 13 openedSix (told 11 0 0 0 0 0)
     ∷ explaining codeA true 33 13 openedSix (told 9 0 0 0 0 0)
     ∷ explaining codeA false 33 13 openedSix (told 6 0 0 0 0 0)
+    -- N7: counters 0 to 9 when 7, 2, 2, 7, 0 are counted, and the vote read from them: of 7 and 2, which are as common, h0 is 2
+    ∷ countedBy 10 (7 ∷ 2 ∷ 2 ∷ 7 ∷ 0 ∷ []) (1 ∷ 0 ∷ 2 ∷ 0 ∷ 0 ∷ 0 ∷ 0 ∷ 2 ∷ 0 ∷ 0 ∷ []) (vote 2 2 2 1)
+    -- decode with counters gives what decode gives, on the page of case 6; 6 where they are not 256 zeros, before 8
+    ∷ withCounters codeA (2 ∷ 2 ∷ []) (7 ∷ zeros 25) (zeros 256)
+    (record { given = found (zeros 13) (zeros 13) (249 ∷ zeros 12) (map pos (3 ∷ times 12 5)) 2 1 4 1; counters = zeros 256 })
+    ∷ withCounters codeA [] (7 ∷ zeros 25) (zeros 255 ++ (1 ∷ [])) (record { given = refusedA 6; counters = zeros 255 ++ (1 ∷ []) })
+    ∷ withCounters codeA [] (7 ∷ zeros 25) (zeros 255) (record { given = refusedA 6; counters = zeros 255 })
+    ∷ withCounters codeA [] (7 ∷ zeros 25) (zeros 256) (record { given = refusedA 8; counters = zeros 256 })
     ∷ []
 
 told-apart : map computed misreadings ≡ misreadings
@@ -230,7 +258,7 @@ pageSix : List ℕ
 pageSix = 7 ∷ zeros 25
 
 falls-by-three : VisitFalls 256 (checksOf codeA) (distanceTo codeA pageSix) (record { symbol = 0; threshold = 2 }) (opened codeA pageSix)
-unfolding codeA pageSix times branchAt checksBy checksOf checkSumBy checkSymbol checkSymbols codeWord syndrome firstOf leader leadCount otherCount nextCount
+unfolding codeA pageSix times branchAt checksBy checksOf checkSumBy checkSymbol checkSymbols codeWord syndrome firstBy otherBy leader leadCount nextCount
     estimates isChange change changes visit opened distanceTo sub same differ count distance sumOver sumBelow tabulate symbolsAt subtractAt
 falls-by-three = record { lowered = (λ e. omega arith); left = (λ e. absurd (subst T e tt)) }
 

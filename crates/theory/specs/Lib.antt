@@ -21,6 +21,7 @@ pub mod Decoding
 pub mod Moments
 pub mod PassCalls
 pub mod Explaining
+pub mod Counters
 pub mod Integers
 pub mod Margins
 pub mod Statements

@@ -8,21 +8,22 @@ use native.Mathlib.Nat.{one-mul}
 use native.Mathlib.Omega.{arith}
 use lib.Count.{ones}
 use lib.Dec.{eqb}
-use lib.IntN.{pos, negℤ, _-ℤ_}
+use lib.IntN.{ℤ, pos, negℤ, _-ℤ_}
 use lib.ListN.{length, getD, length-map}
 use lib.Signed.{_≤ℤ_}
-use Rattle.model.specs.Bytes.{wordOf, cPassOutcome}
-use Rattle.model.specs.Calls.{firstThatApplies, stateFits, decodeFits, tableAnswer, decodeAnswer, openAnswer, passAnswer, explainAnswer, outcome, openOutcome, Passed, passedState, passedChanges, passOutcome, PassCall, fitting, called, afterCalls, callChanges, notRefused, callRun}
+use Rattle.model.specs.Bytes.{wordOf, cDecodeOutcome, cDecodeCountersOutcome, cPassOutcome}
+use Rattle.model.specs.Calls.{firstThatApplies, countersFit, stateFits, decodeFits, tableAnswer, decodeAnswer, openAnswer, passAnswer, explainAnswer, outcome, decodeOutcome, decodeCountersOutcome, openOutcome, Passed, passedState, passedChanges, passOutcome, PassCall, fitting, called, afterCalls, callChanges, notRefused, callRun}
 use Rattle.model.specs.Code.{Code, codeOf, dataCount, checkCount, pageLength, checksEach, checksBy, checksOf, checkSumBy, checkSymbol, checkSymbols, codeWord, dataOf, receivedChecks, SelfOrthogonal, differencesBy, differences, allDifferent}
 use Rattle.model.specs.Decoder.{State, Visit, estimates, change, changes, visit, after, changeCount, passes, dataSymbols, opened, passesOf, run, distanceTo, Counts, decodedState, decodedCounts, marginsOf, pass, isIdle, none, thresholdsRun, firstSmaller, stateWeight}
 use Rattle.model.specs.Demand.{VisitFalls, Falls, RunFalls, DecodeFalls, PassFalls, Recovers, DecodeRecovers, smallest}
 use Rattle.model.specs.Limits.{TableLimits, Limits}
-use Rattle.model.specs.Symbols.{choose, same, count, tabulate, addEach, subEach}
-use Rattle.model.specs.Vote.{leader, leadCount, nextCount, votes, margin, ground, equalBits}
+use Rattle.model.specs.Symbols.{choose, same, count, tabulate, addEach, subEach, Below}
+use Rattle.model.specs.Vote.{leader, leadCount, nextCount, votes, votesRead, counted, margin, ground, equalBits}
 use Rattle.theory.specs.Answers.{table-accepted, table-accepts, table-usable, Opens, Taken, decode-taken, decode-opens, open-taken, pass-taken, explain-takes, explain-taken}
 use Rattle.theory.specs.Branches.{orthogonal-differences}
 use Rattle.theory.specs.Codes.{code-incidence, check-symbol, check-symbols}
-use Rattle.theory.specs.Counting.{eqb-yes, eqb-no, All, length-symbolsAt}
+use Rattle.theory.specs.Counting.{eqb-yes, eqb-no, All, length-symbolsAt, count-misses}
+use Rattle.theory.specs.Counters.{length-counted, counted-at, votes-counted}
 use Rattle.theory.specs.Decoding.{code-falls, code-received, code-opened-sized, code-sized, code-tied, code-distance, code-recovers, code-minima}
 use Rattle.theory.specs.Distance.{length-tabulate, tabulate-ext}
 use Rattle.theory.specs.Explaining.{Ground, ground-is, bits-at, bits-ones, bits-below}
@@ -425,3 +426,32 @@ bits-mean es = record { bit = bits-at es (leader es); set = bits-ones es (leader
 pub explain-accepted : (c : Code) (fits : Bool) (threshold j : ℕ) (read : State)
     → (explainAnswer c fits threshold j read ≡ 0) ↔ ((passAnswer c fits threshold read ≡ 0) × (j < dataCount c))
 explain-accepted c fits t j read = (explain-taken c fits t j read, λ p. explain-takes c fits t j read (p .0) (p .1))
+
+-- ---- 9. the vote by counters (N7)
+
+-- When all estimates are counted, each counter holds how often its value occurs, and so at most the number of estimates, which a byte holds; the vote
+-- read from the counters is the vote by counting: the same h0 (in a tie the smallest), m0, m1 and zeros.
+pub record CountersMean (n : ℕ) (es : List ℕ) : Type 0 where
+  pub size : length (counted n es) ≡ n
+  pub holds : (v : ℕ) → getD (counted n es) v 0 ≡ count v es
+  pub small : (v : ℕ) → getD (counted n es) v 0 ≤ length es
+  pub read : votesRead (counted n es) es ≡ votes es
+
+pub counters-mean : (n : ℕ) (es : List ℕ) → Below n es → CountersMean n es
+counters-mean n es low = record {
+  size = length-counted n es;
+  holds = counted-at n es low;
+  small = (λ v. omega (arith, counted-at n es low v, count-misses v es));
+  read = votes-counted n es low;
+}
+
+-- Decode with counters gives what decode gives, where the counters are 256 zeros, Rattle and C.
+pub counters-decode : (c : Code) (page thresholds : List ℕ) (lent : State) (margins : List ℤ) (counters : List ℕ) → countersFit counters ≡ true
+    → decodeCountersOutcome c page thresholds lent margins counters ≡ record { given = decodeOutcome c true page thresholds lent margins; counters = counters }
+unfolding decodeCountersOutcome
+counters-decode c page ts lent margins counters e = ap (λ (b : Bool). record { given = decodeOutcome c b page ts lent margins; counters = counters }) e
+
+pub counters-decode-c : (c : Code) (page thresholds : List ℕ) (lent : State) (margins counters counts : List ℕ) → countersFit counters ≡ true
+    → cDecodeCountersOutcome c page thresholds lent margins counters counts ≡ record { given = cDecodeOutcome c true page thresholds lent margins counts; counters = counters }
+unfolding cDecodeCountersOutcome
+counters-decode-c c page ts lent margins counters counts e = ap (λ (b : Bool). record { given = cDecodeOutcome c b page ts lent margins counts; counters = counters }) e
