@@ -9,7 +9,7 @@ use lib.Dec.{eqb}
 use lib.ListN.{length, getD, take}
 use lib.Seq.{take-all}
 use Rattle.model.specs.Symbols.{choose, count}
-use Rattle.model.specs.Vote.{otherCount}
+use Rattle.model.specs.Vote.{otherBy, otherCount}
 use Rattle.theory.specs.Counting.{eqb-yes, eqb-no, same-yes, same-no}
 use Rattle.theory.specs.Turns.{count-turn}
 use Rattle.theory.specs.Voting.{other-max, other-least}
@@ -19,7 +19,7 @@ abbrev pub others : List ℕ → ℕ
 others es = otherCount es 0 es
 
 pub others-none : (es : List ℕ) → others (take 0 es) ≡ 0
-unfolding otherCount
+unfolding otherBy
 others-none es = refl
 
 others-bound : (es : List ℕ) (v : ℕ) → v ≢ 0 → count v es ≤ others es

@@ -1,5 +1,6 @@
 // The vote over estimates, and a quick test before it.
 ghost use mathlib.Core.Path.{_≡_};
+ghost use mathlib.Core.Bool.{_&&_, _||_};
 ghost use Prim.Native.Nat.{_<_, _≤_, max};
 ghost use lib.Dec.{eqb, ltb};
 ghost use lib.ListN.{length};
@@ -22,20 +23,15 @@ fn count_equal(es: &[u8], v: u8) -> u8
 }
 
 // A value, and how many estimates have it.
-struct Lead {
-    value: u8,
-    count: u8,
+pub struct Lead {
+    pub value: u8,
+    pub count: u8,
 }
 
-// The first of the leader so far and one candidate: the commoner, in a tie the smaller.
-fn first_of(es: &[u8], best: Lead, a: u8) -> Lead
-    requires { ⌜ (length (now es) ≤ 255) × (best .count ≡ count (best .value) (now es)) ⌝ }
-    ensures { λ r. ⌜ r ≡ leadOf (now (es .entry)) (choose (goesBefore (now (es .entry)) a (best .value)) a (best .value)) ⌝ }
+// The first of the leader so far and a candidate with its count n: the commoner, in a tie the smaller.
+pub fn first_of(best: Lead, a: u8, n: u8) -> Lead
+    ensures { λ r. ⌜ r ≡ choose (ltb (best .count) n || (eqb (best .count) n && ltb a (best .value))) (record { value = a; count = n }) best ⌝ }
 {
-    if a == best.value {
-        return best;
-    }
-    let n = count_equal(es, a);
     if n < best.count {
         return best;
     }
@@ -46,6 +42,17 @@ fn first_of(es: &[u8], best: Lead, a: u8) -> Lead
         return Lead { value: a, count: n };
     }
     best
+}
+
+// The first of the leader so far and one candidate, which is counted unless it is that leader.
+fn first_in(es: &[u8], best: Lead, a: u8) -> Lead
+    requires { ⌜ (length (now es) ≤ 255) × (best ≡ leadOf (now es) (best .value)) ⌝ }
+    ensures { λ r. ⌜ r ≡ leadOf (now (es .entry)) (choose (goesBefore (now (es .entry)) a (best .value)) a (best .value)) ⌝ }
+{
+    if a == best.value {
+        return best;
+    }
+    first_of(best, a, count_equal(es, a))
 }
 
 // The leader of the estimates, and its count.
@@ -60,13 +67,23 @@ fn leader_of(es: &[u8]) -> Lead
     };
     let mut i = 0;
     while i < es.len() {
-        best = first_of(es, best, es[i]);
+        best = first_in(es, best, es[i]);
         i += 1;
     }
     best
 }
 
-// The larger of m and the count of one candidate, which counts 0 where it is h.
+// The larger of m and the count of a value, which counts 0 where the value is h.
+pub fn raised(m: u8, h: u8, value: u8, count: u8) -> u8
+    ensures { λ r. ⌜ r ≡ max m (choose (eqb value h) 0 count) ⌝ }
+{
+    if value == h {
+        return m;
+    }
+    if m < count { count } else { m }
+}
+
+// The larger of m and the count of one candidate, which is counted unless it is h.
 fn larger_other(es: &[u8], h: u8, m: u8, a: u8) -> u8
     requires { ⌜ length (now es) ≤ 255 ⌝ }
     ensures { λ r. ⌜ r ≡ max m (choose (eqb a h) 0 (count a (now (es .entry)))) ⌝ }
@@ -74,8 +91,7 @@ fn larger_other(es: &[u8], h: u8, m: u8, a: u8) -> u8
     if a == h {
         return m;
     }
-    let n = count_equal(es, a);
-    if m < n { n } else { m }
+    raised(m, h, a, count_equal(es, a))
 }
 
 // The largest count among the values other than h.
@@ -118,16 +134,6 @@ pub fn vote_over(es: &[u8]) -> Vote
     }
 }
 
-// The larger of m and the count of a value, which counts 0 where the value is 0.
-fn raised(m: u8, value: usize, count: u8) -> u8
-    ensures { λ r. ⌜ r ≡ max m (choose (eqb value 0) 0 count) ⌝ }
-{
-    if value == 0 {
-        return m;
-    }
-    if m < count { count } else { m }
-}
-
 // The largest count of a value other than 0, by a counter for each value.
 pub fn most_other(es: &[u8]) -> u8
     requires { ⌜ length (now es) ≤ 33 ⌝ }
@@ -137,10 +143,11 @@ pub fn most_other(es: &[u8]) -> u8
     let mut most: u8 = 0;
     let mut i = 0;
     while i < es.len() {
-        let e = es[i] as usize;
+        let v = es[i];
+        let e = v as usize;
         let n = counters[e] + 1;
         counters[e] = n;
-        most = raised(most, e, n);
+        most = raised(most, 0, v, n);
         i += 1;
     }
     most

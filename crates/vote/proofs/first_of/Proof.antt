@@ -1,45 +1,29 @@
--- `first_of`: each return settles which of the two goes before the other.
-use mathlib.Core.Path.{ap, sym}
-use Prim.Native.Nat.{ℕ}
+-- `first_of`: each return settles the comparison of the counts, and in a tie that of the values.
+use mathlib.Core.Path.{refl}
 use native.Mathlib.Omega.{arith}
-use borrow.Author.Needs.{needs}
-use Rattle.model.specs.Symbols.{count}
-use Rattle.vote.specs.Leading.{more-before, less-after, tie-before, tie-after, lead-kept, lead-taken}
+use borrow.Author.Tests.{lt-ltb, le-ltb, eq-eqb, ne-eqb}
 use Rattle.vote.proofs.first_of.Statement.{statement}
 use Rattle.vote.proofs.first_of.Tie as tie
 
 returns : tie.Need-returns
 returns c =
-    let s = c .before .before .before in
-    lead-kept (s .args .es .now) (s .args .a) (s .args .best) (s .pre .1)
-    (tie-after (s .args .es .now) (s .args .a) (s .args .best .value) (ap (λ (v : ℕ). count v (s .args .es .now)) (sym (c .if1 .taken))) (omega arith))
-
-count-equal-requires : tie.Need-count-equal-requires
-count-equal-requires c κs = search needs
+    let s = c .before .before .args in
+    simp (le-ltb (s .best .count) (s .n) (omega arith), ne-eqb (s .best .count) (s .n) (omega arith)) refl
 
 returns-2 : tie.Need-returns-2
 returns-2 c =
-    let s = c .before .before .before .before .before .before in
-    lead-kept (s .args .es .now) (s .args .a) (s .args .best) (s .pre .1) (less-after (s .args .es .now) (s .args .a) (s .args .best .value) (omega arith))
+    let s = c .before .before .before .before .args in
+    simp (lt-ltb (s .best .count) (s .n) (omega arith)) refl
 
 returns-3 : tie.Need-returns-3
 returns-3 c =
-    let s = c .before .before .before .before .before .before .before .before in
-    let n = c .before .before .before .before .count-equal in
-    lead-taken (s .args .es .now) (s .args .a) (s .args .best .value) (n .result) (n .ensures) (more-before (s .args .es .now) (s .args .a) (s .args .best .value) (omega arith))
+    let s = c .before .before .before .before .before .before .args in
+    simp (le-ltb (s .best .count) (s .n) (omega arith), eq-eqb (s .best .count) (s .n) (omega arith), lt-ltb (s .a) (s .best .value) (omega arith)) refl
 
 returns-4 : tie.Need-returns-4
 returns-4 c =
-    let s = c .before .before .before .before .before .before .before .before .before .before in
-    let n = c .before .before .before .before .before .before .count-equal in
-    lead-taken (s .args .es .now) (s .args .a) (s .args .best .value) (n .result) (n .ensures)
-    (tie-before (s .args .es .now) (s .args .a) (s .args .best .value) (omega arith) (omega arith))
-
-returns-5 : tie.Need-returns-5
-returns-5 c =
-    let s = c .before .before .before .before .before .before .before .before .before .before in
-    lead-kept (s .args .es .now) (s .args .a) (s .args .best) (s .pre .1) (tie-after (s .args .es .now) (s .args .a) (s .args .best .value) (omega arith) (omega arith))
+    let s = c .before .before .before .before .before .before .args in
+    simp (le-ltb (s .best .count) (s .n) (omega arith), eq-eqb (s .best .count) (s .n) (omega arith), le-ltb (s .a) (s .best .value) (omega arith)) refl
 
 pub first-of-spec : {M : Type 1} → statement M
-first-of-spec =
-    tie.close (tie.spec returns count-equal-requires returns-2 returns-3 returns-4 returns-5)
+first-of-spec = tie.close (tie.spec returns returns-2 returns-3 returns-4)

@@ -5,7 +5,7 @@ use Prim.Native.Nat.{ℕ, _≤_, _-_}
 use native.Mathlib.Omega.{arith}
 use lib.ListN.{length, take, getD}
 use lib.Seq.{take-all}
-use Rattle.model.specs.Symbols.{choose}
+use Rattle.model.specs.Symbols.{choose, count}
 use Rattle.model.specs.Vote.{goesBefore, firstOf, leader}
 use Rattle.theory.specs.Turns.{first-turn}
 use Rattle.vote.specs.declared.Lead.{Lead}
@@ -28,13 +28,13 @@ count-equal-requires c κs = omega arith
 loop-holds : tie.Need-loop-holds Inv-loop μ-loop
 loop-holds c =
     let es : List ℕ = c .before .before .before .args .es .now in
-    (omega arith, rw (c .count-equal .ensures, first-none es (getD es 0 0) es) refl)
+    (omega arith, rw (c .count-equal .ensures, first-none (λ v. count v es) (getD es 0 0) es) refl)
 
-shared-slice-read-first-of : tie.Need-shared-slice-read-first-of Inv-loop μ-loop
-shared-slice-read-first-of c = omega arith
+shared-slice-read-first-in : tie.Need-shared-slice-read-first-in Inv-loop μ-loop
+shared-slice-read-first-in c = omega arith
 
-first-of-requires : tie.Need-first-of-requires Inv-loop μ-loop
-first-of-requires c κs = (omega arith, rw (c .before .before .loop .inv .1) refl)
+first-in-requires : tie.Need-first-in-requires Inv-loop μ-loop
+first-in-requires c κs = (omega arith, rw (c .before .before .loop .inv .1) refl)
 
 add-i : tie.Need-add-i Inv-loop μ-loop
 add-i c = omega arith
@@ -48,9 +48,9 @@ loop-again c =
     let es : List ℕ = b .before .before .before .before .args .es .now in
     let a : ℕ = getD es (b .loop .i) 0 in (
       omega arith,
-      c .first-of .ensures
+      c .first-in .ensures
           ∙ ap (λ (l : Lead). leadOf es (choose (goesBefore es a (l .value)) a (l .value))) (b .loop .inv .1)
-          ∙ ap (λ (v : ℕ). leadOf es v) (sym (first-turn es (getD es 0 0) es (b .loop .i) (omega arith))),
+          ∙ ap (λ (v : ℕ). leadOf es v) (sym (first-turn (λ v. count v es) (getD es 0 0) es (b .loop .i) (omega arith))),
     )
 
 returns : tie.Need-returns Inv-loop μ-loop
@@ -69,8 +69,8 @@ leader-of-spec =
     shared-slice-read-first
     count-equal-requires
     loop-holds
-    shared-slice-read-first-of
-    first-of-requires
+    shared-slice-read-first-in
+    first-in-requires
     add-i
     loop-less
     loop-again

@@ -27,8 +27,8 @@ few l = let b = start l in omega (arith, b .pre, counted-few 256 255 (b .args .e
 loop-holds : tie.Need-loop-holds Inv-loop μ-loop
 loop-holds c = let es = c .before .args .es .now in (omega arith, counted-none 256 255 es, sym (others-none es))
 
-shared-slice-read-e : tie.Need-shared-slice-read-e Inv-loop μ-loop
-shared-slice-read-e c = omega arith
+shared-slice-read-v : tie.Need-shared-slice-read-v Inv-loop μ-loop
+shared-slice-read-v c = omega arith
 
 cast-e : tie.Need-cast-e Inv-loop μ-loop
 cast-e c = omega (arith, c .shared-slice-known2 .given (c .before .before .loop .i))
@@ -76,7 +76,7 @@ most-other-spec =
     Inv-loop
     μ-loop
     loop-holds
-    shared-slice-read-e
+    shared-slice-read-v
     cast-e
     array-read-n
     add-n

@@ -5,6 +5,7 @@ use Prim.Native.Nat.{ℕ, _≤_, _-_}
 use native.Mathlib.Omega.{arith}
 use lib.ListN.{length, take}
 use lib.Seq.{take-all}
+use Rattle.model.specs.Symbols.{count}
 use Rattle.model.specs.Vote.{otherCount}
 use Rattle.theory.specs.Turns.{other-turn}
 use Rattle.vote.specs.Leading.{other-none}
@@ -18,7 +19,7 @@ abbrev μ-loop : tie.MeasureT-loop
 μ-loop es h m₀ i₀ m i = length es - i
 
 loop-holds : tie.Need-loop-holds Inv-loop μ-loop
-loop-holds c = omega (arith, other-none (c .before .args .es .now) (c .before .args .h) (c .before .args .es .now))
+loop-holds c = let a = c .before .args in omega (arith, other-none (λ v. count v (a .es .now)) (a .h) (a .es .now))
 
 shared-slice-read-larger-other : tie.Need-shared-slice-read-larger-other Inv-loop μ-loop
 shared-slice-read-larger-other c = omega arith
@@ -36,7 +37,7 @@ loop-again : tie.Need-loop-again Inv-loop μ-loop
 loop-again c =
     let b = c .before .before .before in
     let a = b .before .before .args in
-    (omega arith, rw (c .larger-other .ensures, b .loop .inv .1, other-turn (a .es .now) (a .h) (a .es .now) (b .loop .i) (omega arith)) refl)
+    (omega arith, rw (c .larger-other .ensures, b .loop .inv .1, other-turn (λ v. count v (a .es .now)) (a .h) (a .es .now) (b .loop .i) (omega arith)) refl)
 
 returns : tie.Need-returns Inv-loop μ-loop
 returns c =

@@ -1,0 +1,3 @@
+-- The laws of the vote by counters.
+pub mod Reading
+pub mod Filling
