@@ -5,7 +5,7 @@ ghost use mathlib.Core.Bool.{_&&_};
 ghost use Prim.Native.Nat.{_+_, _*_, _≤_};
 ghost use lib.Dec.{eqb};
 ghost use Rattle.model.specs.Decoder.{stateBy};
-ghost use Rattle.model.specs.Calls.{firstThatApplies, pageTests, thresholdTests, decodeAnswer, passAnswer, explainAnswer};
+ghost use Rattle.model.specs.Calls.{firstThatApplies, pageTests, thresholdTests, countersFit, decodeAnswer, passAnswer, explainAnswer};
 ghost use Rattle.params.specs.Codes.{codeBy};
 
 // Two lengths are as a call needs them.
@@ -16,6 +16,23 @@ pub fn two_fit(a: usize, m: usize, b: usize, n: usize) -> bool
         return false;
     }
     b == n
+}
+
+// Whether the buffers that one form of a call lends fit, and others too.
+pub fn also(others: bool, fit: bool) -> bool
+    ensures { λ r. ⌜ r ≡ (others && fit) ⌝ }
+{
+    if others { fit } else { false }
+}
+
+// The counters of decode with counters are 256 and all zero.
+pub fn counters_fit(counters: &[u8]) -> bool
+    ensures { λ r. ⌜ r ≡ countersFit (now (counters .entry)) ⌝ }
+{
+    if counters.len() != 256 {
+        return false;
+    }
+    slices::all_below(1, counters)
 }
 
 // The lengths of the margins' bytes, four for each of n margins, and of the 16 count bytes are as the C form of decode needs them.

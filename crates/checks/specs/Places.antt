@@ -110,7 +110,7 @@ pub along-less : (p q : Place) → p .symbol < p .end → q ≡ alongPlace p →
 along-less p q h e = omega (arith, ap (λ (x : Place). x .symbol) e, ap (λ (x : Place). x .end) e)
 
 module _ {c : Code} {o p : Place} (w : InBranch c o p) where
-  same-end : p .end ≡ o .end
+  pub same-end : p .end ≡ o .end
   same-end = ap (λ (x : Place). x .end) (w .same)
 
   -- the run of the first place is that of each
@@ -156,6 +156,21 @@ module _ {c : Code} {o p : Place} (t : TableLimits c) (w : InBranch c o p) where
     low = omega (arith, w .low);
     high = omega (arith, same-end w);
   })
+
+  -- a later place
+  pub in-later : (q : Place) → q ≡ record { symbol = q .symbol; start = p .start; end = p .end; first = p .first; last = p .last } → p .symbol ≤ q .symbol → q .symbol ≤ p .end
+      → InBranch c o q
+  in-later q e l h = record {
+    opens = w .opens;
+    inside = w .inside;
+    same = e ∙ ap (λ (x : Place). record { symbol = q .symbol; start = x .start; end = x .end; first = x .first; last = x .last }) (w .same);
+    low = omega (arith, w .low);
+    high = omega (arith, same-end w);
+  }
+
+  -- the symbols of its branch are data symbols
+  pub in-end : p .end ≤ dataCount c
+  in-end = omega (arith, end-is, same-end w, branch-inside c r (w .inside))
 
   -- its symbols are passed: the next branch, with fewer symbols left of n
   pub in-onward : p .end ≤ p .symbol → (q : Place) → q ≡ onwardPlace (c .k) p → AtBranch c q

@@ -47,6 +47,19 @@ impl Place {
         }
     }
 
+    // Symbol number j, in the same branch.
+    pub fn at(self, j: usize) -> Self
+        ensures { λ r. ⌜ r ≡ record { symbol = j; start = self .start; end = self .end; first = self .first; last = self .last } ⌝ }
+    {
+        Place {
+            symbol: j,
+            start: self.start,
+            end: self.end,
+            first: self.first,
+            last: self.last,
+        }
+    }
+
     // The same symbol number, in the next branch.
     pub fn onward(self, k: usize) -> Self
         requires { ⌜ (k ≤ 4096) × (self .end ≤ 8192) × (self .first ≤ self .last) × (self .last ≤ 256) ⌝ }

@@ -1,13 +1,130 @@
-// The call decode, which has the buffer for the zeros.
+// The calls decode and decode_counters, which have the buffer for the zeros.
 use params::Params;
 pub use tally::Decoded;
 ghost use mathlib.Core.Path.{_≡_};
+ghost use mathlib.Core.Bool.{true};
 ghost use Rattle.model.specs.Code.{codeOf};
 ghost use Rattle.model.specs.Decoder.{stateBy};
-ghost use Rattle.model.specs.Calls.{decodeOutcome};
+ghost use Rattle.model.specs.Calls.{decodeOutcome, decodeCountersOutcome};
 ghost use Rattle.model.specs.Demand.{DecodeFalls, DecodeRecovers};
+ghost use Rattle.theory.specs.Counters.{Clear};
 
-// Decodes a received page into the result, S and D, and fills the margins from these. A small code clears a small buffer for the zeros.
+// Decodes a received page into the result, S and D, and fills the margins from these, with the counters that are lent, or none. A small
+// code clears a small buffer for the zeros.
+fn decode_sized(
+    others: bool,
+    q: u32,
+    k: u32,
+    b: u32,
+    positions: &[u16],
+    page: &[u8],
+    thresholds: &[u8],
+    counters: &mut [u8],
+    result: &mut [u8],
+    syndrome: &mut [u8],
+    difference: &mut [u8],
+    margins: &mut [i32],
+) -> Decoded
+    requires { ⌜ (others ≡ true → Clear (now counters)) ⌝ }
+    ensures outcome { λ r. ⌜ record {
+      number = r .number;
+      left = record {
+        state = stateBy (now (result .exit)) (now (syndrome .exit)) (now (difference .exit));
+        margins = now (margins .exit);
+        counts = record { passes = r .tally .passes; changes = r .tally .changes; start = r .tally .start; end = r .tally .end };
+      };
+    } ≡ decodeOutcome (codeOf q k b (now (positions .entry))) others (now (page .entry)) (now (thresholds .entry))
+        (stateBy (now (result .entry)) (now (syndrome .entry)) (now (difference .entry))) (now (margins .entry)) ⌝ }
+    ensures falling { λ r. ⌜ (r .number ≡ 0 → DecodeFalls (codeOf q k b (now (positions .entry))) (now (thresholds .entry)) (now (page .entry))
+        (record { passes = r .tally .passes; changes = r .tally .changes; start = r .tally .start; end = r .tally .end })) ⌝ }
+    ensures recovery { λ r. ⌜ (r .number ≡ 0 → DecodeRecovers (codeOf q k b (now (positions .entry))) (now (thresholds .entry)) (now (page .entry)) (now (result .exit))) ⌝ }
+    ensures kept { λ r. ⌜ now (counters .exit) ≡ now (counters .entry) ⌝ }
+{
+    let code = Params {
+        q,
+        k: k as usize,
+        b: b as usize,
+    };
+    if params::data_count(code) <= 128 {
+        let mut few = [0u8; 128];
+        return receiver::decode_into(
+            others,
+            code,
+            positions,
+            page,
+            thresholds,
+            &mut few,
+            counters,
+            result,
+            syndrome,
+            difference,
+            margins,
+        );
+    }
+    let mut zeros = [0u8; 4096];
+    receiver::decode_into(
+        others,
+        code,
+        positions,
+        page,
+        thresholds,
+        &mut zeros,
+        counters,
+        result,
+        syndrome,
+        difference,
+        margins,
+    )
+}
+
+// Decodes a received page. The votes are taken by 256 lent counters, which are all zero before and after.
+pub fn decode_counters(
+    q: u32,
+    k: u32,
+    b: u32,
+    positions: &[u16],
+    page: &[u8],
+    thresholds: &[u8],
+    result: &mut [u8],
+    syndrome: &mut [u8],
+    difference: &mut [u8],
+    margins: &mut [i32],
+    counters: &mut [u8],
+) -> Decoded
+    ensures outcome { λ r. ⌜ record {
+      given = record {
+        number = r .number;
+        left = record {
+          state = stateBy (now (result .exit)) (now (syndrome .exit)) (now (difference .exit));
+          margins = now (margins .exit);
+          counts = record { passes = r .tally .passes; changes = r .tally .changes; start = r .tally .start; end = r .tally .end };
+        };
+      };
+      counters = now (counters .exit);
+    } ≡ decodeCountersOutcome (codeOf q k b (now (positions .entry))) (now (page .entry)) (now (thresholds .entry))
+        (stateBy (now (result .entry)) (now (syndrome .entry)) (now (difference .entry))) (now (margins .entry)) (now (counters .entry)) ⌝ }
+    ensures falling { λ r. ⌜ (r .number ≡ 0 → DecodeFalls (codeOf q k b (now (positions .entry))) (now (thresholds .entry)) (now (page .entry))
+        (record { passes = r .tally .passes; changes = r .tally .changes; start = r .tally .start; end = r .tally .end })) ⌝ }
+    ensures recovery { λ r. ⌜ (r .number ≡ 0 → DecodeRecovers (codeOf q k b (now (positions .entry))) (now (thresholds .entry)) (now (page .entry)) (now (result .exit))) ⌝ }
+{
+    let fit = answers::counters_fit(counters);
+    decode_sized(
+        fit,
+        q,
+        k,
+        b,
+        positions,
+        page,
+        thresholds,
+        counters,
+        result,
+        syndrome,
+        difference,
+        margins,
+    )
+}
+
+// Decodes a received page. The votes are taken pair by pair.
 pub fn decode(
     q: u32,
     k: u32,
@@ -27,38 +144,22 @@ pub fn decode(
         margins = now (margins .exit);
         counts = record { passes = r .tally .passes; changes = r .tally .changes; start = r .tally .start; end = r .tally .end };
       };
-    } ≡ decodeOutcome (codeOf q k b (now (positions .entry))) (now (page .entry)) (now (thresholds .entry))
+    } ≡ decodeOutcome (codeOf q k b (now (positions .entry))) true (now (page .entry)) (now (thresholds .entry))
         (stateBy (now (result .entry)) (now (syndrome .entry)) (now (difference .entry))) (now (margins .entry)) ⌝ }
     ensures falling { λ r. ⌜ (r .number ≡ 0 → DecodeFalls (codeOf q k b (now (positions .entry))) (now (thresholds .entry)) (now (page .entry))
         (record { passes = r .tally .passes; changes = r .tally .changes; start = r .tally .start; end = r .tally .end })) ⌝ }
     ensures recovery { λ r. ⌜ (r .number ≡ 0 → DecodeRecovers (codeOf q k b (now (positions .entry))) (now (thresholds .entry)) (now (page .entry)) (now (result .exit))) ⌝ }
 {
-    let code = Params {
+    let mut none = [0u8; 0];
+    decode_sized(
+        true,
         q,
-        k: k as usize,
-        b: b as usize,
-    };
-    if params::data_count(code) <= 128 {
-        let mut few = [0u8; 128];
-        return receiver::decode_into(
-            code,
-            positions,
-            page,
-            thresholds,
-            &mut few,
-            result,
-            syndrome,
-            difference,
-            margins,
-        );
-    }
-    let mut zeros = [0u8; 4096];
-    receiver::decode_into(
-        code,
+        k,
+        b,
         positions,
         page,
         thresholds,
-        &mut zeros,
+        &mut none,
         result,
         syndrome,
         difference,

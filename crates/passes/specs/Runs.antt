@@ -4,6 +4,7 @@ use mathlib.Core.Logic.{_≢_}
 use mathlib.Core.Bool.{Bool, true, false}
 use mathlib.Core.List.{List, [], _∷_, _++_}
 use Prim.Native.Nat.{ℕ, zero, suc, _+_, _≤_, _<_}
+use native.Mathlib.Decide.{ℕ-discrete}
 use native.Mathlib.Omega.{arith}
 use native.Mathlib.Numerals.{add-one}
 use lib.Dec.{eqb}
@@ -64,6 +65,16 @@ pub from-suc : (c : Code) (t j n m : ℕ) (p : Progress) → m ≡ n + 1 → (i 
     → visitsFrom c t j m p ≡ visitOf c (record { symbol = i; threshold = t }) (visitsFrom c t j n p)
 unfolding visitsFrom
 from-suc c t j n m p e i h = rw (h, e, add-one n) refl
+
+-- visits that change nothing can be passed over
+pub from-skip : (c : Code) (t j n m : ℕ) (p x : Progress) → x ≡ visitsFrom c t j n p → n ≤ m → ((i : ℕ) → n ≤ i → i < m → x ≡ visitOf c (record { symbol = j + i; threshold = t }) x)
+    → x ≡ visitsFrom c t j m p
+unfolding visitsFrom
+from-skip c t j n zero p x e h f = e ∙ ap (λ (i : ℕ). visitsFrom c t j i p) (let z : n ≡ 0 = omega arith in z)
+from-skip c t j n (suc m) p x e h f = elim (ℕ-discrete n (suc m)) as (λ o. x ≡ visitsFrom c t j (suc m) p) [
+  | yes z ↦ e ∙ ap (λ (i : ℕ). visitsFrom c t j i p) z
+  | no z ↦ f m (omega arith) (omega arith) ∙ ap (visitOf c _) (from-skip c t j n m p x e (omega arith) (λ i l g. f i l (omega arith)))
+]
 
 -- they follow the visits before j
 pub visits-from : (c : Code) (t j n m : ℕ) (p : Progress) → m ≡ j + n → visitsFrom c t j n (visits c t j p) ≡ visits c t m p

@@ -8,11 +8,12 @@ ghost use lib.ListN.{length};
 ghost use Rattle.model.specs.Code.{dataCount};
 ghost use Rattle.model.specs.Decoder.{stateBy};
 ghost use Rattle.params.specs.Codes.{codeBy};
+ghost use Rattle.theory.specs.Counters.{Clear};
 ghost use Rattle.zeros.specs.Counts.{zeroCounts};
 ghost use Rattle.visits.specs.Progress.{progress, Ready};
 ghost use Rattle.passes.specs.Runs.{runOf};
 
-// Passes with the thresholds in order. An idle pass is followed by the first later one whose threshold is smaller; if there is none, they end.
+// Passes with the thresholds in order. A pass goes from one data symbol that the zeros do not settle to the next. An idle pass is followed by the first later one whose threshold is smaller; if there is none, they end.
 fn run_counted(
     code: Params,
     positions: &[u16],
@@ -21,15 +22,18 @@ fn run_counted(
     syndrome: &mut [u8],
     difference: &mut [u8],
     zeros: &mut [u8],
+    counters: &mut [u8],
     opened: Tally,
 ) -> Tally
     requires { ⌜ Ready (codeBy code (now positions)) (stateBy (now result) (now syndrome) (now difference))
         × (length (now thresholds) ≤ 64)
         × (opened .changes ≡ 0)
-        × (now zeros ≡ zeroCounts (codeBy code (now positions)) (now syndrome)) ⌝ }
+        × (now zeros ≡ zeroCounts (codeBy code (now positions)) (now syndrome))
+        × Clear (now counters) ⌝ }
     ensures ran { λ t. ⌜ progress (now (result .exit)) (now (syndrome .exit)) (now (difference .exit)) t
         ≡ runOf (codeBy code (now (positions .entry))) (now (thresholds .entry)) (progress (now (result .entry)) (now (syndrome .entry)) (now (difference .entry)) opened) ⌝ }
     ensures counted { λ t. ⌜ now (zeros .exit) ≡ zeroCounts (codeBy code (now (positions .entry))) (now (syndrome .exit)) ⌝ }
+    ensures kept { λ t. ⌜ now (counters .exit) ≡ now (counters .entry) ⌝ }
 {
     let n = thresholds.len();
     let symbols = params::data_count(code);
@@ -45,21 +49,23 @@ fn run_counted(
         let threshold = thresholds[p];
         let mut place = Place::opening(code.k, each);
         while place.symbol < symbols {
-            while place.symbol < place.end {
+            let mut at = visits::open_from(place, place.symbol, each, threshold, difference, zeros);
+            while at.symbol < place.end {
                 tally = visits::visit(
                     code,
                     positions,
-                    place,
+                    at,
                     threshold,
                     result,
                     syndrome,
                     difference,
                     zeros,
+                    counters,
                     tally,
                 );
-                place = place.along();
+                at = visits::open_from(at, at.symbol + 1, each, threshold, difference, zeros);
             }
-            place = place.onward(code.k);
+            place = at.onward(code.k);
         }
         count += 1;
         p += 1;
@@ -74,7 +80,7 @@ fn run_counted(
 }
 
 // The passes of a decode, from an opened page. The zeros at the checks of every data symbol are counted first, into a lent buffer of
-// one byte a data symbol, which afterwards has those of the syndrome that is left.
+// one byte a data symbol, which afterwards has those of the syndrome that is left. The visits vote by the counters, where 256 are lent.
 pub fn run(
     code: Params,
     positions: &[u16],
@@ -83,15 +89,18 @@ pub fn run(
     syndrome: &mut [u8],
     difference: &mut [u8],
     zeros: &mut [u8],
+    counters: &mut [u8],
     opened: Tally,
 ) -> Tally
     requires { ⌜ Ready (codeBy code (now positions)) (stateBy (now result) (now syndrome) (now difference))
         × (length (now thresholds) ≤ 64)
         × (opened .changes ≡ 0)
-        × (length (now zeros) ≡ dataCount (codeBy code (now positions))) ⌝ }
+        × (length (now zeros) ≡ dataCount (codeBy code (now positions)))
+        × Clear (now counters) ⌝ }
     ensures ran { λ t. ⌜ progress (now (result .exit)) (now (syndrome .exit)) (now (difference .exit)) t
         ≡ runOf (codeBy code (now (positions .entry))) (now (thresholds .entry)) (progress (now (result .entry)) (now (syndrome .entry)) (now (difference .entry)) opened) ⌝ }
     ensures counted { λ t. ⌜ now (zeros .exit) ≡ zeroCounts (codeBy code (now (positions .entry))) (now (syndrome .exit)) ⌝ }
+    ensures kept { λ t. ⌜ now (counters .exit) ≡ now (counters .entry) ⌝ }
 {
     zeros::count_zeros(code, positions, syndrome, zeros);
     run_counted(
@@ -102,6 +111,7 @@ pub fn run(
         syndrome,
         difference,
         zeros,
+        counters,
         opened,
     )
 }

@@ -61,6 +61,7 @@ pub fn pass_with(
     }
     let thresholds = [threshold as u8];
     let opened = Tally::opened(0);
+    let mut none = [0u8; 0];
     let tally = passes::run(
         code,
         positions,
@@ -69,6 +70,7 @@ pub fn pass_with(
         syndrome,
         difference,
         &mut zeros[..n],
+        &mut none,
         opened,
     );
     Passed {

@@ -3,18 +3,20 @@ use params::Params;
 use tally::Decoded;
 use tally::Tally;
 ghost use mathlib.Core.Path.{_≡_};
-ghost use mathlib.Core.Bool.{_&&_};
+ghost use mathlib.Core.Bool.{true, _&&_};
 ghost use Prim.Native.Nat.{_*_, _≤_};
 ghost use lib.ListN.{length};
 ghost use Rattle.model.specs.Decoder.{stateBy};
 ghost use Rattle.model.specs.Calls.{decodeFits, decodeOutcome};
 ghost use Rattle.model.specs.Demand.{DecodeFalls, DecodeRecovers};
 ghost use Rattle.params.specs.Codes.{codeBy};
+ghost use Rattle.theory.specs.Counters.{Clear};
 ghost use Rattle.margins.specs.Margins.{Left};
 ghost use Rattle.receiver.specs.Received.{countsOf, ranOutcome};
 
 // Decodes a received page into the result, S and D, for every form of the call: `others` says whether the buffers that only
-// one form lends fit, and zeros, which the form keeps on its stack, is what the margins are then filled from.
+// one form lends fit, and zeros, which the form keeps on its stack, is what the margins are then filled from. The visits vote by
+// the counters, where 256 are lent.
 pub fn decode_with(
     others: bool,
     code: Params,
@@ -22,11 +24,13 @@ pub fn decode_with(
     page: &[u8],
     thresholds: &[u8],
     zeros: &mut [u8],
+    counters: &mut [u8],
     result: &mut [u8],
     syndrome: &mut [u8],
     difference: &mut [u8],
 ) -> Decoded
-    requires { ⌜ (code .k ≤ 4294967295) × (code .b ≤ 4294967295) × (code .b * code .k ≤ 4096 → code .b * code .k ≤ length (now zeros)) ⌝ }
+    requires { ⌜ (code .k ≤ 4294967295) × (code .b ≤ 4294967295) × (code .b * code .k ≤ 4096 → code .b * code .k ≤ length (now zeros))
+        × (others ≡ true → Clear (now counters)) ⌝ }
     ensures outcome { λ r. ⌜ record {
       number = r .number;
       left = record { state = stateBy (now (result .exit)) (now (syndrome .exit)) (now (difference .exit)); counts = countsOf (r .tally) };
@@ -39,6 +43,7 @@ pub fn decode_with(
     ensures falling { λ r. ⌜ (r .number ≡ 0 → DecodeFalls (codeBy code (now (positions .entry))) (now (thresholds .entry)) (now (page .entry))
         (countsOf (r .tally))) ⌝ }
     ensures recovery { λ r. ⌜ (r .number ≡ 0 → DecodeRecovers (codeBy code (now (positions .entry))) (now (thresholds .entry)) (now (page .entry)) (now (result .exit))) ⌝ }
+    ensures kept { λ r. ⌜ now (counters .exit) ≡ now (counters .entry) ⌝ }
 {
     let n = params::data_count(code);
     let fits = answers::decode_fits(
@@ -63,6 +68,7 @@ pub fn decode_with(
         page,
         thresholds,
         &mut zeros[..n],
+        counters,
         result,
         syndrome,
         difference,
@@ -70,19 +76,22 @@ pub fn decode_with(
     Decoded { number: 0, tally }
 }
 
-// Decode in its Rattle form, with a buffer for the zeros.
+// Decode in its Rattle form, with a buffer for the zeros; `others` as in `decode_with`.
 pub fn decode_into(
+    others: bool,
     code: Params,
     positions: &[u16],
     page: &[u8],
     thresholds: &[u8],
     zeros: &mut [u8],
+    counters: &mut [u8],
     result: &mut [u8],
     syndrome: &mut [u8],
     difference: &mut [u8],
     margins: &mut [i32],
 ) -> Decoded
-    requires { ⌜ (code .k ≤ 4294967295) × (code .b ≤ 4294967295) × (code .b * code .k ≤ 4096 → code .b * code .k ≤ length (now zeros)) ⌝ }
+    requires { ⌜ (code .k ≤ 4294967295) × (code .b ≤ 4294967295) × (code .b * code .k ≤ 4096 → code .b * code .k ≤ length (now zeros))
+        × (others ≡ true → Clear (now counters)) ⌝ }
     ensures outcome { λ r. ⌜ record {
       number = r .number;
       left = record {
@@ -90,20 +99,22 @@ pub fn decode_into(
         margins = now (margins .exit);
         counts = countsOf (r .tally);
       };
-    } ≡ decodeOutcome (codeBy code (now (positions .entry))) (now (page .entry)) (now (thresholds .entry))
+    } ≡ decodeOutcome (codeBy code (now (positions .entry))) others (now (page .entry)) (now (thresholds .entry))
         (stateBy (now (result .entry)) (now (syndrome .entry)) (now (difference .entry))) (now (margins .entry)) ⌝ }
     ensures falling { λ r. ⌜ (r .number ≡ 0 → DecodeFalls (codeBy code (now (positions .entry))) (now (thresholds .entry)) (now (page .entry))
         (countsOf (r .tally))) ⌝ }
     ensures recovery { λ r. ⌜ (r .number ≡ 0 → DecodeRecovers (codeBy code (now (positions .entry))) (now (thresholds .entry)) (now (page .entry)) (now (result .exit))) ⌝ }
+    ensures kept { λ r. ⌜ now (counters .exit) ≡ now (counters .entry) ⌝ }
 {
     let n = params::data_count(code);
     let got = decode_with(
-        margins.len() == n,
+        answers::also(others, margins.len() == n),
         code,
         positions,
         page,
         thresholds,
         zeros,
+        counters,
         result,
         syndrome,
         difference,

@@ -2,3 +2,4 @@
 pub mod Decisions
 pub mod Estimates
 pub mod Progress
+pub mod Settled

@@ -6,10 +6,11 @@ use vote::Vote;
 ghost use mathlib.Core.Path.{_≡_};
 ghost use Prim.Native.Nat.{_+_, _<_, _≤_};
 ghost use lib.ListN.{length, getD, set};
-ghost use Rattle.model.specs.Code.{checksBy, checksOf};
+ghost use Rattle.model.specs.Code.{checksEach, checksOf};
 ghost use Rattle.model.specs.Decoder.{stateBy, change};
-ghost use Rattle.model.specs.Symbols.{sub, count, symbolsAt};
+ghost use Rattle.model.specs.Symbols.{sub, count};
 ghost use Rattle.params.specs.Codes.{codeBy};
+ghost use Rattle.theory.specs.Counters.{Clear};
 ghost use Rattle.vote.specs.Leading.{voteOf};
 ghost use Rattle.vote.specs.Others.{others};
 ghost use Rattle.checks.specs.Checks.{AtChecks, estimatesBy};
@@ -17,6 +18,7 @@ ghost use Rattle.checks.specs.Places.{Placed};
 ghost use Rattle.zeros.specs.Counts.{zeroCounts};
 ghost use Rattle.visits.specs.Decisions.{toSubtract};
 ghost use Rattle.visits.specs.Progress.{progress, Ready, visitOf};
+ghost use Rattle.visits.specs.Settled.{Open, FirstOpen, OpenFrom};
 
 // The vote over the estimates of symbol j of a branch, whose run of positions is lent and whose own difference is given.
 pub fn vote_at(code: Params, positions: &[u16], j: usize, own: u8, s: &[u8]) -> Vote
@@ -79,16 +81,29 @@ pub fn change_at(
     checks::subtract_at(code, &positions[first..last], index, h, syndrome);
 }
 
+// The vote over estimates: by the counters, where 256 are lent, and else pair by pair.
+fn vote_by(es: &[u8], counters: &mut [u8]) -> Vote
+    requires { ⌜ (2 ≤ length (now es)) × (length (now es) ≤ 33) × Clear (now counters) ⌝ }
+    ensures told { λ r. ⌜ r ≡ voteOf (now (es .entry)) ⌝ }
+    ensures kept { λ r. ⌜ now (counters .exit) ≡ now (counters .entry) ⌝ }
+{
+    if counters.len() == 256 {
+        return counters::vote_counted(es, counters);
+    }
+    vote::vote_over(es)
+}
+
 // h0 where estimates are a change at a threshold, else 0. A change needs a leader that stands more often among the
 // estimates than their zeros and the threshold together, which a quick test tells before the vote.
-fn decided(es: &[u8], threshold: u8, zeros: u8) -> u8
-    requires { ⌜ (2 ≤ length (now es)) × (length (now es) ≤ 33) × (zeros ≡ count 0 (now es)) × (zeros + threshold ≤ 255) ⌝ }
-    ensures { λ r. ⌜ r ≡ toSubtract threshold (now (es .entry)) ⌝ }
+fn decided(es: &[u8], threshold: u8, zeros: u8, counters: &mut [u8]) -> u8
+    requires { ⌜ (2 ≤ length (now es)) × (length (now es) ≤ 33) × (zeros ≡ count 0 (now es)) × (zeros + threshold ≤ 255) × Clear (now counters) ⌝ }
+    ensures subtracts { λ r. ⌜ r ≡ toSubtract threshold (now (es .entry)) ⌝ }
+    ensures kept { λ r. ⌜ now (counters .exit) ≡ now (counters .entry) ⌝ }
 {
     if !vote::lead_above(es, zeros + threshold) {
         return 0;
     }
-    let v = vote::vote_over(es);
+    let v = vote_by(es, counters);
     if v.lead - v.next <= threshold {
         return 0;
     }
@@ -104,43 +119,24 @@ fn full_vote(
     own: u8,
     zeros: u8,
     syndrome: &[u8],
+    counters: &mut [u8],
 ) -> u8
     requires { ⌜ AtChecks (code .k) (now positions) (now syndrome)
         × (j < code .k)
         × (zeros ≡ count 0 (estimatesBy (code .k) (now positions) j own (now syndrome)))
-        × (zeros + threshold ≤ 255) ⌝ }
-    ensures { λ r. ⌜ r ≡ toSubtract threshold (estimatesBy (code .k) (now (positions .entry)) j own (now (syndrome .entry))) ⌝ }
+        × (zeros + threshold ≤ 255)
+        × Clear (now counters) ⌝ }
+    ensures subtracts { λ r. ⌜ r ≡ toSubtract threshold (estimatesBy (code .k) (now (positions .entry)) j own (now (syndrome .entry))) ⌝ }
+    ensures kept { λ r. ⌜ now (counters .exit) ≡ now (counters .entry) ⌝ }
 {
     let n = positions.len() + 1;
     let mut es = [0u8; 33];
     checks::gather(code, positions, j, own, syndrome, &mut es[..n]);
-    decided(&es[..n], threshold, zeros)
+    decided(&es[..n], threshold, zeros, counters)
 }
 
-// The same, from the zeros at the checks of j alone, which are given, where they settle it: where there are enough of them
-// no value can lead zero by more than the threshold.
-fn voted(
-    code: Params,
-    positions: &[u16],
-    j: usize,
-    threshold: u8,
-    own: u8,
-    others: u8,
-    syndrome: &[u8],
-) -> u8
-    requires { ⌜ AtChecks (code .k) (now positions) (now syndrome)
-        × (j < code .k)
-        × (others ≡ count 0 (symbolsAt (now syndrome) (checksBy (code .k) (now positions) j))) ⌝ }
-    ensures { λ r. ⌜ r ≡ toSubtract threshold (estimatesBy (code .k) (now (positions .entry)) j own (now (syndrome .entry))) ⌝ }
-{
-    let zeros = others + symbols::equal(0, own);
-    if positions.len() < (zeros as usize) + (zeros as usize) + (threshold as usize) {
-        return 0;
-    }
-    full_vote(code, positions, j, threshold, own, zeros, syndrome)
-}
-
-// A visit to a data symbol with one threshold. zeros has the zeros at the checks of each data symbol, before and after.
+// A visit to a data symbol, which the zeros do not settle, with one threshold. zeros has the zeros at the checks of each data symbol, before and after; counters
+// are 256 for a vote by them, or none, and all zero.
 pub fn visit(
     code: Params,
     positions: &[u16],
@@ -150,30 +146,36 @@ pub fn visit(
     syndrome: &mut [u8],
     difference: &mut [u8],
     zeros: &mut [u8],
+    counters: &mut [u8],
     tally: Tally,
 ) -> Tally
     requires { ⌜ Ready (codeBy code (now positions)) (stateBy (now result) (now syndrome) (now difference))
         × Placed (codeBy code (now positions)) place
         × (tally .changes < 4294967295)
-        × (now zeros ≡ zeroCounts (codeBy code (now positions)) (now syndrome)) ⌝ }
+        × (now zeros ≡ zeroCounts (codeBy code (now positions)) (now syndrome))
+        × Clear (now counters)
+        × Open (checksEach (codeBy code (now positions))) threshold (now difference) (now zeros) (place .symbol) ⌝ }
     ensures step { λ t. ⌜ progress (now (result .exit)) (now (syndrome .exit)) (now (difference .exit)) t
         ≡ visitOf (codeBy code (now (positions .entry))) (record { symbol = place .symbol; threshold = threshold })
         (progress (now (result .entry)) (now (syndrome .entry)) (now (difference .entry)) tally) ⌝ }
     ensures counted { λ t. ⌜ now (zeros .exit) ≡ zeroCounts (codeBy code (now (positions .entry))) (now (syndrome .exit)) ⌝ }
+    ensures kept { λ t. ⌜ now (counters .exit) ≡ now (counters .entry) ⌝ }
 {
     let j = place.symbol;
     let first = place.first;
     let last = place.last;
     let index = j - place.start;
     let own = difference[j];
-    let h = voted(
+    let all = zeros[j] + symbols::equal(0, own);
+    let h = full_vote(
         code,
         &positions[first..last],
         index,
         threshold,
         own,
-        zeros[j],
+        all,
         syndrome,
+        counters,
     );
     if h == 0 {
         return tally;
@@ -181,4 +183,44 @@ pub fn visit(
     subtract_symbol(code, j, h, result, difference);
     recount::subtract_checks(code, positions, place, h, syndrome, zeros);
     tally.changed()
+}
+
+// The first data symbol from one on, and before the end, that the zeros do not settle, or the end.
+fn first_open(
+    each: usize,
+    threshold: u8,
+    difference: &[u8],
+    zeros: &[u8],
+    from: usize,
+    end: usize,
+) -> usize
+    requires { ⌜ (from ≤ end) × (end ≤ length (now difference)) × (end ≤ length (now zeros)) ⌝ }
+    ensures passed { λ r. ⌜ FirstOpen each threshold (now (difference .entry)) (now (zeros .entry)) from end r ⌝ }
+    ensures found { λ r. ⌜ (r < end → Open each threshold (now (difference .entry)) (now (zeros .entry)) r) ⌝ }
+{
+    let mut j = from;
+    while j < end {
+        let n = (zeros[j] as usize) + (symbols::equal(0, difference[j]) as usize);
+        if n + n + (threshold as usize) <= each {
+            return j;
+        }
+        j += 1;
+    }
+    j
+}
+
+// The first place of a branch, from a symbol on, that the zeros do not settle, or the one after its last symbol: the visits to those
+// before it change nothing.
+pub fn open_from(
+    place: Place,
+    from: usize,
+    each: usize,
+    threshold: u8,
+    difference: &[u8],
+    zeros: &[u8],
+) -> Place
+    requires { ⌜ (from ≤ place .end) × (place .end ≤ length (now difference)) × (place .end ≤ length (now zeros)) ⌝ }
+    ensures { λ r. ⌜ OpenFrom each threshold (now (difference .entry)) (now (zeros .entry)) place from r ⌝ }
+{
+    place.at(first_open(each, threshold, difference, zeros, from, place.end))
 }

@@ -13,13 +13,13 @@ use Rattle.correction.proofs.decode_page.Tie as tie
 
 -- the places that later ones look back to: the start, the opening, the run
 abbrev start : tie.After-open-page → tie.Start
-start c = c .before .before .before .before .before .before .before .before .before .before .before
+start c = c .before .before .before .before .before .before .before .before .before .before .before .before
 
 abbrev opening : tie.Else1 → tie.After-open-page
 opening c = c .before .before .before .before .before .before .before
 
 abbrev ran : tie.After-state-weight-arg2 → tie.After-run
-ran c = c .before .before .before .before .before .before .before .before .before .before
+ran c = c .before .before .before .before .before .before .before .before .before .before .before .before
 
 open-page-requires : tie.Need-open-page-requires
 open-page-requires c κs = search needs
@@ -51,7 +51,7 @@ returns c =
     rw (c .passed .ensures, c .before .opened .ensures) (
       both (o .open-page .ensures .0) refl
           ∙ clean-decoded (codeBy (a .code) (a .positions .now)) (a .page .now) _ (b .pre .0 .opens) (sym (o .open-page .ensures .1) ∙ clean .if1 .taken) (a .thresholds .now) _ (c .before .before .idle-passes .ensures),
-      λ n. absurd (n refl),
+      (λ n. absurd (n refl), refl),
     )
 
 opened-requires-2 : tie.Need-opened-requires-2
@@ -59,7 +59,7 @@ opened-requires-2 c κs = search needs
 
 run-requires : tie.Need-run-requires
 run-requires c κs =
-    let t = c .before .before .before .before in
+    let t = c .before .before .before .before .before in
     let o = opening (t .before) in
     let b = start o in
     let a = b .args in
@@ -68,24 +68,25 @@ run-requires c κs =
       b .pre .0 .few,
       ap (λ (t : Tally). t .changes) (t .opened2 .ensures),
       b .pre .1,
+      b .pre .2,
     )
 
 -- what the passes left is the run from the opened page
 from-opened : (r : tie.After-run)
-    → let o = opening (r .before .before .before .before .before .before) in
+    → let o = opening (r .before .before .before .before .before .before .before) in
     let a = start o .args in
     let code = codeBy (a .code) (a .positions .now) in
-    runOf code (a .thresholds .now) (progress (o .open-page .last .1 .1 .1 .0) (o .open-page .last .1 .1 .1 .1 .0) (o .open-page .last .1 .1 .1 .1 .1 .0) (r .before .before .before .before .before .opened2 .result))
+    runOf code (a .thresholds .now) (progress (o .open-page .last .1 .1 .1 .0) (o .open-page .last .1 .1 .1 .1 .0) (o .open-page .last .1 .1 .1 .1 .1 .0) (r .before .before .before .before .before .before .opened2 .result))
     ≡ runOf code (a .thresholds .now) (startAt code (a .page .now) (o .open-page .result))
 from-opened r =
-    let t = r .before .before .before .before .before in
+    let t = r .before .before .before .before .before .before in
     let o = opening (t .before) in
     ap (runOf _ _) (both (o .open-page .ensures .0) (t .opened2 .ensures))
 
 state-weight-requires : tie.Need-state-weight-requires
 state-weight-requires c κs =
     let r = ran c in
-    let o = opening (r .before .before .before .before .before .before) in
+    let o = opening (r .before .before .before .before .before .before .before) in
     let b = start o in
     let a = b .args in
     run-lengths (codeBy (a .code) (a .positions .now)) (a .page .now) _ (b .pre .0 .opens) (a .thresholds .now) _ _ (r .run .ensures .0 ∙ from-opened r)
@@ -93,32 +94,39 @@ state-weight-requires c κs =
 ended-requires : tie.Need-ended-requires
 ended-requires c κs = search needs
 
+-- the result, S and D where the passes left them and where the page was opened
+abbrev passed : tie.After-ended → tie.After-result2
+passed c = c .before .before .before .before .before .before .before .before .before .before .before .before .before
+
+abbrev opened-page : tie.After-result2 → tie.After-d
+opened-page c = c .before .before .before .before .before .before .before .before .before .before
+
 same-length-4 : tie.Need-same-length-4
 same-length-4 c = search needs
 
 same-length-5 : tie.Need-same-length-5
-same-length-5 c =
-    let back = c .before .before .before .before .before .before .before .before .before .before .before in
-    let opened = back .before .before .before .before .before .before .before .before .before .before .before .before .before in
-    omega (arith, back .result2 .given, opened .result .given)
+same-length-5 c = search needs
 
 same-length-6 : tie.Need-same-length-6
-same-length-6 c = search needs
+same-length-6 c = omega (arith, passed c .result2 .given, opened-page (passed c) .before .before .before .before .result .given)
 
 same-length-7 : tie.Need-same-length-7
-same-length-7 c = search needs
+same-length-7 c = omega (arith, c .before .before .before .before .before .before .before .before .before .before .before .s2 .given, opened-page (passed c) .before .before .s .given)
+
+same-length-8 : tie.Need-same-length-8
+same-length-8 c = omega (arith, c .before .before .before .before .before .before .before .before .before .d2 .given, opened-page (passed c) .d .given)
 
 returns-2 : tie.Need-returns-2
 returns-2 c =
     let w = c .before in
     let r = ran (w .before) in
-    let o = opening (r .before .before .before .before .before .before) in
+    let o = opening (r .before .before .before .before .before .before .before) in
     let b = start o in
     let a = b .args in
     let code = codeBy (a .code) (a .positions .now) in (
       rw (c .ended .ensures)
           (run-decoded code (a .page .now) _ (b .pre .0 .opens) (a .thresholds .now) _ _ (r .run .ensures .0 ∙ from-opened r) _ (o .open-page .ensures .1) (w .state-weight .ensures)),
-      λ n. r .run .ensures .1,
+      (λ n. r .run .ensures .1 .0, r .run .ensures .1 .1),
     )
 
 pub decode-page-spec : {M : Type 1} → statement M
@@ -141,4 +149,5 @@ decode-page-spec =
     same-length-5
     same-length-6
     same-length-7
+    same-length-8
     returns-2)

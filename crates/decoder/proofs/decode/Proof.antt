@@ -1,20 +1,14 @@
--- `decode`: whatever k and b are, the number of data symbols fits; the rest is `decode_into`'s.
+-- `decode`: no counters are lent; the rest is `decode_sized`'s.
 use borrow.Author.Needs.{needs}
-use native.Mathlib.Omega.{arith}
-use Rattle.params.specs.Sizes.{sizes-fit}
+use Rattle.theory.specs.Counters.{none-clear}
 use Rattle.decoder.proofs.decode.Statement.{statement}
 use Rattle.decoder.proofs.decode.Tie as tie
 
-data-count-requires : tie.Need-data-count-requires
-data-count-requires c κs =
-    let a = c .before .before .before .before .before .before .args in
-    omega (arith, sizes-fit (a .k) (a .b) (omega arith) (omega arith))
+slice-aggregate-decode-sized : tie.Need-slice-aggregate-decode-sized
+slice-aggregate-decode-sized c = search needs
 
-slice-aggregate-decode-into : tie.Need-slice-aggregate-decode-into
-slice-aggregate-decode-into c = search needs
-
-decode-into-requires : tie.Need-decode-into-requires
-decode-into-requires c κs = search needs
+decode-sized-requires : tie.Need-decode-sized-requires
+decode-sized-requires c κs = (λ e. none-clear)
 
 same-length : tie.Need-same-length
 same-length c = search needs
@@ -29,45 +23,16 @@ same-length-4 : tie.Need-same-length-4
 same-length-4 c = search needs
 
 returns : tie.Need-returns
-returns c = search needs
-
-slice-aggregate-decode-into-2 : tie.Need-slice-aggregate-decode-into-2
-slice-aggregate-decode-into-2 c = search needs
-
-decode-into-requires-2 : tie.Need-decode-into-requires-2
-decode-into-requires-2 c κs = search needs
-
-same-length-5 : tie.Need-same-length-5
-same-length-5 c = search needs
-
-same-length-6 : tie.Need-same-length-6
-same-length-6 c = search needs
-
-same-length-7 : tie.Need-same-length-7
-same-length-7 c = search needs
-
-same-length-8 : tie.Need-same-length-8
-same-length-8 c = search needs
-
-returns-2 : tie.Need-returns-2
-returns-2 c = search needs
+returns c = let e = c .before .before .before .before .before .before .before .before .decode-sized .ensures in (e .0, (e .1 .0, e .1 .1 .0))
 
 pub decode-spec : {M : Type 1} → statement M
 decode-spec =
     tie.close
     (tie.spec
-    data-count-requires
-    slice-aggregate-decode-into
-    decode-into-requires
+    slice-aggregate-decode-sized
+    decode-sized-requires
     same-length
     same-length-2
     same-length-3
     same-length-4
-    returns
-    slice-aggregate-decode-into-2
-    decode-into-requires-2
-    same-length-5
-    same-length-6
-    same-length-7
-    same-length-8
-    returns-2)
+    returns)

@@ -1,5 +1,5 @@
 -- `run_counted`: in a pass, and in each branch of it, the state is that after the visits to the symbols before its place; between passes those left give what the whole run gives, with at most 4,096 changes a pass.
-use mathlib.Core.Path.{_≡_, refl, sym, _∙_, ap}
+use mathlib.Core.Path.{_≡_, refl, sym, _∙_, ap, subst}
 use mathlib.Core.Logic.{⊎-elim}
 use mathlib.Core.List.{List, []}
 use Prim.Native.Nat.{ℕ, _≤_, _<_, _+_, _-_, _*_}
@@ -7,51 +7,57 @@ use native.Mathlib.Omega.{arith}
 use lib.ListN.{length, getD, drop, drop-of-length-le}
 use Rattle.model.specs.Code.{Code, dataCount}
 use Rattle.params.specs.Codes.{codeBy}
-use Rattle.checks.specs.Places.{InBranch, AtBranch, branch-first, branch-next, branch-over, Placed, in-placed, in-along, along-less, in-onward, onward-less, onward-fits}
+use Rattle.checks.specs.Places.{InBranch, AtBranch, branch-first, branch-some, branch-next, branch-over, Placed, same-end, in-placed, in-later, in-end, in-onward, onward-less, onward-fits}
 use Rattle.checks.specs.declared.Place.{Place}
+use Rattle.theory.specs.Counters.{Clear}
 use Rattle.zeros.specs.Counts.{zeroCounts, length-zeroCounts}
 use Rattle.visits.specs.Progress.{Progress, progress, visitOf, Ready}
-use Rattle.passes.specs.Runs.{visits, visitsFrom, from-none, from-suc, visits-from, passesFrom, runOf, Kept, kept-by, passes-nil, pass-idle, pass-changed}
+use Rattle.visits.specs.Settled.{Open, settled-left}
+use Rattle.passes.specs.Runs.{visits, visits-suc, visitsFrom, from-none, from-suc, from-skip, visits-from, passesFrom, runOf, Kept, kept-by, passes-nil, pass-idle, pass-changed}
 use Rattle.passes.proofs.run_counted.Statement.{statement}
 use Rattle.passes.proofs.run_counted.Tie as tie
 
 abbrev Inv-loop3 : tie.InvT-loop3
-Inv-loop3 code positions thresholds result₀ syndrome₀ difference₀ zeros₀ n symbols each tally₀ p count before threshold place₀ result syndrome difference zeros tally place =
-    InBranch (codeBy code positions) place₀ place
+Inv-loop3 code positions thresholds result₀ syndrome₀ difference₀ zeros₀ counters₀ n symbols each tally₀ p count before threshold place at₀ result syndrome difference zeros counters tally at =
+    InBranch (codeBy code positions) place at
     × (progress result syndrome difference tally
-    ≡ visitsFrom (codeBy code positions) threshold (place₀ .symbol) (place .symbol - place₀ .symbol) (progress result₀ syndrome₀ difference₀ tally₀))
+    ≡ visitsFrom (codeBy code positions) threshold (place .symbol) (at .symbol - place .symbol) (progress result₀ syndrome₀ difference₀ tally₀))
     × (zeros ≡ zeroCounts (codeBy code positions) syndrome)
+    × (counters ≡ counters₀)
+    × (at .symbol < place .end → Open each threshold difference zeros (at .symbol))
 
 abbrev μ-loop3 : tie.MeasureT-loop3
-μ-loop3 code positions thresholds result₀ syndrome₀ difference₀ zeros₀ n symbols each tally₀ p count before threshold place₀ result syndrome difference zeros tally place =
-    place .end - place .symbol
+μ-loop3 code positions thresholds result₀ syndrome₀ difference₀ zeros₀ counters₀ n symbols each tally₀ p count before threshold place at₀ result syndrome difference zeros counters tally at =
+    place .end - at .symbol
 
 abbrev Inv-loop2 : tie.InvT-loop2
-Inv-loop2 code positions thresholds result₀ syndrome₀ difference₀ zeros₀ n symbols each tally₀ p count before threshold place₀ result syndrome difference zeros tally place =
+Inv-loop2 code positions thresholds result₀ syndrome₀ difference₀ zeros₀ counters₀ n symbols each tally₀ p count before threshold place₀ result syndrome difference zeros counters tally place =
     AtBranch (codeBy code positions) place
     × (progress result syndrome difference tally ≡ visits (codeBy code positions) threshold (place .symbol) (progress result₀ syndrome₀ difference₀ tally₀))
     × (zeros ≡ zeroCounts (codeBy code positions) syndrome)
+    × (counters ≡ counters₀)
 
 abbrev μ-loop2 : tie.MeasureT-loop2
-μ-loop2 code positions thresholds result₀ syndrome₀ difference₀ zeros₀ n symbols each tally₀ p count before threshold place₀ result syndrome difference zeros tally place =
+μ-loop2 code positions thresholds result₀ syndrome₀ difference₀ zeros₀ counters₀ n symbols each tally₀ p count before threshold place₀ result syndrome difference zeros counters tally place =
     symbols - place .symbol
 
 abbrev Inv-loop : tie.InvT-loop
-Inv-loop code positions thresholds result₀ syndrome₀ difference₀ zeros₀ n symbols each tally₀ p₀ count₀ result syndrome difference zeros tally p count =
+Inv-loop code positions thresholds result₀ syndrome₀ difference₀ zeros₀ counters₀ n symbols each tally₀ p₀ count₀ result syndrome difference zeros counters tally p count =
     (count ≤ p)
     × (p ≤ n)
     × (zeros ≡ zeroCounts (codeBy code positions) syndrome)
     × Kept (codeBy code positions) (4096 * count) (progress result₀ syndrome₀ difference₀ tally₀) (progress result syndrome difference tally)
     × (passesFrom (codeBy code positions) count (drop p thresholds) (progress result syndrome difference tally)
     ≡ passesFrom (codeBy code positions) 0 thresholds (progress result₀ syndrome₀ difference₀ tally₀))
+    × (counters ≡ counters₀)
 
 abbrev μ-loop : tie.MeasureT-loop
-μ-loop code positions thresholds result₀ syndrome₀ difference₀ zeros₀ n symbols each tally₀ p₀ count₀ result syndrome difference zeros tally p count = n - p
+μ-loop code positions thresholds result₀ syndrome₀ difference₀ zeros₀ counters₀ n symbols each tally₀ p₀ count₀ result syndrome difference zeros counters tally p count = n - p
 
 -- ---- the places: the start and the outer loop, seen from the loops
 
 abbrev start : tie.At-loop Inv-loop3 μ-loop3 Inv-loop2 μ-loop2 Inv-loop μ-loop → tie.Start Inv-loop3 μ-loop3 Inv-loop2 μ-loop2 Inv-loop μ-loop
-start c = c .before .before .before .before .before .before .before .before .before
+start c = c .before .before .before .before .before .before .before .before .before .before
 
 abbrev outer : tie.At-loop2 Inv-loop3 μ-loop3 Inv-loop2 μ-loop2 Inv-loop μ-loop → tie.At-loop Inv-loop3 μ-loop3 Inv-loop2 μ-loop2 Inv-loop μ-loop
 outer c = c .before .before .before .before
@@ -74,7 +80,7 @@ inner c = progress (c .loop3 .result) (c .loop3 .syndrome) (c .loop3 .difference
 
 -- the loop over branches, seen from the loop over the symbols of one
 abbrev branches : tie.At-loop3 Inv-loop3 μ-loop3 Inv-loop2 μ-loop2 Inv-loop μ-loop → tie.At-loop2 Inv-loop3 μ-loop3 Inv-loop2 μ-loop2 Inv-loop μ-loop
-branches c = c .before .before .before
+branches c = c .before .before .before .before .before .before
 
 -- what the visits of a pass keep
 kept : (c : tie.At-loop2 Inv-loop3 μ-loop3 Inv-loop2 μ-loop2 Inv-loop μ-loop) → Kept (codeAt (outer c)) (c .loop2 .place .symbol) (between (outer c)) (within c)
@@ -83,15 +89,15 @@ kept c = kept-by _ _ _ _ _ (outer c .loop .inv .3 .ready) (c .loop2 .inv .1)
 -- ---- the needs
 
 data-count-requires : tie.Need-data-count-requires Inv-loop3 μ-loop3 Inv-loop2 μ-loop2 Inv-loop μ-loop
-data-count-requires c κs = let p = c .before .before .before .before .before .before .pre in omega (arith, p .0 .usable .table .sizes .data-high)
+data-count-requires c κs = let p = c .before .before .before .before .before .before .before .pre in omega (arith, p .0 .usable .table .sizes .data-high)
 
 checks-each-requires : tie.Need-checks-each-requires Inv-loop3 μ-loop3 Inv-loop2 μ-loop2 Inv-loop μ-loop
-checks-each-requires c κs = c .before .before .before .before .before .before .before .pre .0 .usable .table .sizes .b-low
+checks-each-requires c κs = c .before .before .before .before .before .before .before .before .pre .0 .usable .table .sizes .b-low
 
 loop-holds : tie.Need-loop-holds Inv-loop3 μ-loop3 Inv-loop2 μ-loop2 Inv-loop μ-loop
 loop-holds c =
-    let p = c .before .before .before .before .before .before .before .before .pre in
-    (omega arith, omega arith, p .3, record { ready = p .0; few = omega arith }, refl)
+    let p = c .before .before .before .before .before .before .before .before .before .pre in
+    (omega arith, omega arith, p .3, record { ready = p .0; few = omega arith }, refl, refl)
 
 shared-slice-read-threshold : tie.Need-shared-slice-read-threshold Inv-loop3 μ-loop3 Inv-loop2 μ-loop2 Inv-loop μ-loop
 shared-slice-read-threshold c = omega arith
@@ -104,7 +110,7 @@ unfolding visits
 loop2-holds c =
     let l = c .before .before .before in
     let e = c .opening .ensures in
-    (branch-first (codeAt l) _ _ (l .before .checks-each .ensures) e, rw e refl, l .loop .inv .2)
+    (branch-first (codeAt l) _ _ (l .before .checks-each .ensures) e, rw e refl, l .loop .inv .2, refl)
 
 -- a branch is next, where the loop over branches goes on
 next-branch : (c : tie.Then2 Inv-loop3 μ-loop3 Inv-loop2 μ-loop2 Inv-loop μ-loop) → let i = c .before .before in InBranch (codeAt (outer i)) (i .loop2 .place) (i .loop2 .place)
@@ -120,80 +126,139 @@ all-visited c =
     let l = outer i in
     branch-over (start l .pre .0 .usable .table) (i .loop2 .inv .0) (omega (arith, l .before .before .data-count .ensures, c .if2 .left))
 
+-- the buffers are as long as the branch asks, where it opens
+open-from-requires : tie.Need-open-from-requires Inv-loop3 μ-loop3 Inv-loop2 μ-loop2 Inv-loop μ-loop
+open-from-requires c κs =
+    let t = c .before .before in
+    let i = t .before .before in
+    let r = kept i .ready in
+    let w = next-branch t in
+    let inside = in-end (r .usable .table) w in (
+      omega (arith, branch-some (r .usable .table) (i .loop2 .inv .0)),
+      omega (arith, inside, r .sized .len-difference),
+      omega (arith, inside, ap length (i .loop2 .inv .2) ∙ length-zeroCounts _ _),
+    )
+
 loop3-holds : tie.Need-loop3-holds Inv-loop3 μ-loop3 Inv-loop2 μ-loop2 Inv-loop μ-loop
-loop3-holds c = (next-branch c, from-none _ _ _ _ _ (omega arith), c .before .before .loop2 .inv .2)
+loop3-holds c =
+    let t = c .before .before .before in
+    let i = t .before .before in
+    let l = outer i in
+    let n = c .open-from .ensures in
+    let w = next-branch t in
+    let usable = kept i .ready .usable in
+    let inside = in-end (usable .table) w in (
+      in-later (usable .table) w _ (n .same) (n .first .low) (n .first .high),
+      from-skip _ _ _ 0 _ _ _ (from-none _ _ _ 0 _ refl) (omega arith)
+          (λ j a b. settled-left _ usable _ _ _ _ _ (i .loop2 .inv .2) _ _ (omega (arith, n .first .high))
+          (omega (arith, l .before .checks-each .ensures, n .first .passed (i .loop2 .place .symbol + j) (omega arith) (omega arith)))),
+      i .loop2 .inv .2,
+      refl,
+      n .open-here,
+    )
 
 -- the visits of the pass, those of the branch included, and what they keep
 made : (c : tie.At-loop3 Inv-loop3 μ-loop3 Inv-loop2 μ-loop2 Inv-loop μ-loop)
-    → let l = outer (branches c) in inner c ≡ visits (codeAt l) (getD (start l .args .thresholds .now) (l .loop .p) 0) (c .loop3 .place .symbol) (between l)
+    → let l = outer (branches c) in inner c ≡ visits (codeAt l) (getD (start l .args .thresholds .now) (l .loop .p) 0) (c .loop3 .at .symbol) (between l)
 made c =
     let i = branches c in
     c .loop3 .inv .1 ∙ ap (visitsFrom _ _ _ _) (i .loop2 .inv .1) ∙ visits-from _ _ _ _ _ _ (omega (arith, c .loop3 .inv .0 .low))
 
 kept-in : (c : tie.At-loop3 Inv-loop3 μ-loop3 Inv-loop2 μ-loop2 Inv-loop μ-loop)
-    → Kept (codeAt (outer (branches c))) (c .loop3 .place .symbol) (between (outer (branches c))) (inner c)
+    → Kept (codeAt (outer (branches c))) (c .loop3 .at .symbol) (between (outer (branches c))) (inner c)
 kept-in c = kept-by _ _ _ _ _ (outer (branches c) .loop .inv .3 .ready) (made c)
 
 -- a symbol is next, where the inner loop goes on
-placed : (c : tie.Then3 Inv-loop3 μ-loop3 Inv-loop2 μ-loop2 Inv-loop μ-loop) → Placed (codeAt (outer (branches (c .before .before)))) (c .before .before .loop3 .place)
+placed : (c : tie.Then3 Inv-loop3 μ-loop3 Inv-loop2 μ-loop2 Inv-loop μ-loop) → Placed (codeAt (outer (branches (c .before .before .before)))) (c .before .before .before .loop3 .at)
 placed c =
-    let i = c .before .before in
-    in-placed (kept-in i .ready .usable .table) (i .loop3 .inv .0) (c .if3 .taken)
+    let i = c .before .before .before in
+    in-placed (kept-in i .ready .usable .table) (i .loop3 .inv .0) (omega (arith, c .if3 .taken, same-end (i .loop3 .inv .0)))
 
 -- the changes stay far below what a tally can hold
-few-changes : (c : tie.Then3 Inv-loop3 μ-loop3 Inv-loop2 μ-loop2 Inv-loop μ-loop) → c .before .before .loop3 .tally .changes < 4294967295
+few-changes : (c : tie.Then3 Inv-loop3 μ-loop3 Inv-loop2 μ-loop2 Inv-loop μ-loop) → c .before .before .before .loop3 .tally .changes < 4294967295
 few-changes c =
-    let i = c .before .before in
+    let i = c .before .before .before in
     let l = outer (branches i) in
     let k = kept-in i in
     omega (arith, placed c .inside, k .few, l .loop .inv .3 .few, k .ready .usable .table .sizes .data-high, start l .pre .1, start l .pre .2, branches i .before .before .before .if1 .left)
 
 visit-requires : tie.Need-visit-requires Inv-loop3 μ-loop3 Inv-loop2 μ-loop2 Inv-loop μ-loop
 visit-requires c κs =
-    let t = c .before .before .before .before in
-    let i = t .before .before in
-    (kept-in i .ready, placed t, few-changes t, i .loop3 .inv .2)
+    let t = c .before .before .before .before .before in
+    let i = t .before .before .before in
+    let b = branches i in
+    let same = i .loop3 .inv .3 ∙ b .loop2 .inv .3 ∙ outer b .loop .inv .5 in
+    (kept-in i .ready, placed t, few-changes t, i .loop3 .inv .2, subst Clear (sym same) (start (outer b) .pre .4), omega (arith, i .loop3 .inv .4 (t .if3 .taken), outer b .before .checks-each .ensures))
 
-along-requires : tie.Need-along-requires Inv-loop3 μ-loop3 Inv-loop2 μ-loop2 Inv-loop μ-loop
-along-requires c κs =
-    let t = c .before .before .before .before .before .before .before .before .before .before .before .before .before in
-    omega (arith, placed t .inside, kept-in (t .before .before) .ready .usable .table .sizes .data-high)
+-- the visit, seen from where the next place is looked for, and the turn that made it
+abbrev visited : tie.After-struct-known4 Inv-loop3 μ-loop3 Inv-loop2 μ-loop2 Inv-loop μ-loop → tie.After-visit Inv-loop3 μ-loop3 Inv-loop2 μ-loop2 Inv-loop μ-loop
+visited c = c .before .before .before .before .before .before .before .before .before .before .before
+
+abbrev turn : tie.After-visit Inv-loop3 μ-loop3 Inv-loop2 μ-loop2 Inv-loop μ-loop → tie.Then3 Inv-loop3 μ-loop3 Inv-loop2 μ-loop2 Inv-loop μ-loop
+turn v = v .before .before .before .before .before .before
+
+add-open-from : tie.Need-add-open-from Inv-loop3 μ-loop3 Inv-loop2 μ-loop2 Inv-loop μ-loop
+add-open-from c = let t = turn (visited c) in omega (arith, placed t .inside, kept-in (t .before .before .before) .ready .usable .table .sizes .data-high)
+
+open-from-requires-2 : tie.Need-open-from-requires-2 Inv-loop3 μ-loop3 Inv-loop2 μ-loop2 Inv-loop μ-loop
+open-from-requires-2 c κs =
+    let v = visited (c .before .before) in
+    let t = turn v in
+    let i = t .before .before .before in
+    let l = outer (branches i) in
+    let e = v .visit .ensures in
+    let k = kept-by _ _ _ _ _ (l .loop .inv .3 .ready) (e .0 ∙ ap (visitOf _ _) (made i) ∙ sym (visits-suc _ _ _ _ _ refl)) in
+    let inside = in-end (kept-in i .ready .usable .table) (i .loop3 .inv .0) in (
+      omega (arith, t .if3 .taken, same-end (i .loop3 .inv .0)),
+      omega (arith, inside, k .ready .sized .len-difference),
+      omega (arith, inside, ap length (e .1 .0) ∙ length-zeroCounts _ _),
+    )
 
 loop3-less : tie.Need-loop3-less Inv-loop3 μ-loop3 Inv-loop2 μ-loop2 Inv-loop μ-loop
 loop3-less c =
-    along-less _ _ (c .before .before .before .before .before .before .before .before .before .before .before .before .before .before .if3 .taken) (c .along .ensures)
+    let n = c .open-from2 .ensures in
+    omega (arith, n .first .low, turn (visited (c .before .before .before)) .if3 .taken)
 
 loop3-again : tie.Need-loop3-again Inv-loop3 μ-loop3 Inv-loop2 μ-loop2 Inv-loop μ-loop
 loop3-again c =
-    let t = c .before .before .before .before .before .before .before .before .before .before .before .before .before .before in
-    let i = t .before .before in
-    let e = c .before .before .before .before .before .before .before .before .before .visit .ensures in
-    let o = c .along .ensures in
-    let n : c .along .result .symbol ≡ i .loop3 .place .symbol + 1 = ap (λ (x : Place). x .symbol) o in
-    let w = i .loop3 .inv .0 in (
-      in-along (kept-in i .ready .usable .table) w (t .if3 .taken) _ o,
-      e .0 ∙ ap (visitOf _ _) (i .loop3 .inv .1) ∙ sym (from-suc _ _ _ _ _ _ (omega (arith, n, w .low)) _ (omega (arith, w .low))),
-      e .1,
+    let v = visited (c .before .before .before) in
+    let t = turn v in
+    let i = t .before .before .before in
+    let l = outer (branches i) in
+    let e = v .visit .ensures in
+    let n = c .open-from2 .ensures in
+    let w = i .loop3 .inv .0 in
+    let usable = kept-in i .ready .usable in
+    let inside = in-end (usable .table) w in
+    let made = e .0 ∙ ap (visitOf _ _) (i .loop3 .inv .1) ∙ sym (from-suc _ _ _ _ _ _ refl _ (omega (arith, w .low))) in (
+      in-later (usable .table) w _ (n .same) (omega (arith, n .first .low)) (n .first .high),
+      from-skip _ _ _ _ _ _ _ made (omega (arith, w .low, n .first .low))
+          (λ j a b. settled-left _ usable _ _ _ _ _ (e .1 .0) _ _ (omega (arith, w .low, n .first .high))
+          (omega (arith, l .before .checks-each .ensures, n .first .passed (branches i .loop2 .place .symbol + j) (omega (arith, w .low)) (omega (arith, w .low))))),
+      e .1 .0,
+      e .1 .1 ∙ i .loop3 .inv .3,
+      λ h. n .open-here (omega (arith, h, same-end w)),
     )
 
 onward-requires : tie.Need-onward-requires Inv-loop3 μ-loop3 Inv-loop2 μ-loop2 Inv-loop μ-loop
-onward-requires c κs = let i = c .before .before in onward-fits (kept-in i .ready .usable .table) (i .loop3 .inv .0)
+onward-requires c κs = let i = c .before .before .before in onward-fits (kept-in i .ready .usable .table) (i .loop3 .inv .0)
 
 loop2-less : tie.Need-loop2-less Inv-loop3 μ-loop3 Inv-loop2 μ-loop2 Inv-loop μ-loop
 loop2-less c =
     let x = c .before in
-    let i = x .before .before in
-    onward-less (kept-in i .ready .usable .table) (i .loop3 .inv .0) (omega (arith, x .if3 .left)) _ (c .onward .ensures) _ (i .before .if2 .taken)
+    let i = x .before .before .before in
+    onward-less (kept-in i .ready .usable .table) (i .loop3 .inv .0) (omega (arith, x .if3 .left, same-end (i .loop3 .inv .0))) _ (c .onward .ensures) _ (i .before .before .before .before .if2 .taken)
 
 loop2-again : tie.Need-loop2-again Inv-loop3 μ-loop3 Inv-loop2 μ-loop2 Inv-loop μ-loop
 loop2-again c =
     let x = c .before in
-    let i = x .before .before in
+    let i = x .before .before .before in
     let l = outer (branches i) in
     let e = c .onward .ensures in (
-      in-onward (kept-in i .ready .usable .table) (i .loop3 .inv .0) (omega (arith, x .if3 .left)) _ e,
+      in-onward (kept-in i .ready .usable .table) (i .loop3 .inv .0) (omega (arith, x .if3 .left, same-end (i .loop3 .inv .0))) _ e,
       made i ∙ ap (λ (y : Place). visits (codeAt l) (getD (start l .args .thresholds .now) (l .loop .p) 0) (y .symbol) (between l)) (sym e),
       i .loop3 .inv .2,
+      i .loop3 .inv .3 ∙ branches i .loop2 .inv .3,
     )
 
 add-count : tie.Need-add-count Inv-loop3 μ-loop3 Inv-loop2 μ-loop2 Inv-loop μ-loop
@@ -230,6 +295,7 @@ loop-again c =
       ap (λ (ts : List ℕ). passesFrom (codeAt (outer l)) (o .count + 1) ts (within l)) (e .2)
           ∙ sym (pass-idle (codeAt (outer l)) (o .count) (o .p) (l .loop2 .place .symbol) ths (between (outer l)) (within l) (omega arith) (all-visited x) (l .loop2 .inv .1) (omega (arith, c .before .before .if4 .taken)))
           ∙ o .inv .4,
+      l .loop2 .inv .3 ∙ o .inv .5,
     )
 
 loop-less-2 : tie.Need-loop-less-2 Inv-loop3 μ-loop3 Inv-loop2 μ-loop2 Inv-loop μ-loop
@@ -247,32 +313,36 @@ loop-again-2 c =
       pass-kept x,
       sym (pass-changed (codeAt (outer l)) (o .count) (o .p) (l .loop2 .place .symbol) (start (outer l) .args .thresholds .now) (between (outer l)) (within l) (omega arith) (all-visited x) (l .loop2 .inv .1) (c .if4 .left))
           ∙ o .inv .4,
+      l .loop2 .inv .3 ∙ o .inv .5,
     )
 
 -- what holds where the two ways out of the loop meet: p is the start, x the end
-record Done (c : Code) (thresholds zs₀ zs : List ℕ) (p x : Progress) (n : ℕ) : Type 0 where
+record Done (c : Code) (thresholds zs₀ zs cs₀ cs : List ℕ) (p x : Progress) (n : ℕ) : Type 0 where
   few : n ≤ 64
   len-result : length (x .state .result) ≡ length (p .state .result)
   len-syndrome : length (x .state .syndrome) ≡ length (p .state .syndrome)
   len-difference : length (x .state .difference) ≡ length (p .state .difference)
   len-zeros : length zs ≡ length zs₀
   counts : zs ≡ zeroCounts c (x .state .syndrome)
+  counters : cs ≡ cs₀
   ran : passesFrom c n [] x ≡ passesFrom c 0 thresholds p
 
-left : {c : Code} {thresholds zs₀ zs : List ℕ} {p x : Progress} {n : ℕ} → n ≤ 64 → Ready c (p .state) → Ready c (x .state)
-    → zs₀ ≡ zeroCounts c (p .state .syndrome) → zs ≡ zeroCounts c (x .state .syndrome) → passesFrom c n [] x ≡ passesFrom c 0 thresholds p → Done c thresholds zs₀ zs p x n
-left f r y d e g = record {
+left : {c : Code} {thresholds zs₀ zs cs₀ cs : List ℕ} {p x : Progress} {n : ℕ} → n ≤ 64 → Ready c (p .state) → Ready c (x .state)
+    → zs₀ ≡ zeroCounts c (p .state .syndrome) → zs ≡ zeroCounts c (x .state .syndrome) → cs ≡ cs₀ → passesFrom c n [] x ≡ passesFrom c 0 thresholds p
+    → Done c thresholds zs₀ zs cs₀ cs p x n
+left f r y d e k g = record {
   few = f;
   len-result = y .sized .len-result ∙ sym (r .sized .len-result);
   len-syndrome = y .sized .len-syndrome ∙ sym (r .sized .len-syndrome);
   len-difference = y .sized .len-difference ∙ sym (r .sized .len-difference);
   len-zeros = ap length e ∙ length-zeroCounts _ _ ∙ sym (ap length d ∙ length-zeroCounts _ _);
   counts = e;
+  counters = k;
   ran = g;
 }
 
 done : (c : tie.Joined1 Inv-loop3 μ-loop3 Inv-loop2 μ-loop2 Inv-loop μ-loop)
-    → Done (codeAt (c .before)) (start (c .before) .args .thresholds .now) (start (c .before) .args .zeros .now) (c .if1 .zeros) (at-start (c .before))
+    → Done (codeAt (c .before)) (start (c .before) .args .thresholds .now) (start (c .before) .args .zeros .now) (c .if1 .zeros) (start (c .before) .args .counters .now) (c .if1 .counters) (at-start (c .before))
     (progress (c .if1 .result) (c .if1 .syndrome) (c .if1 .difference) (c .if1 .tally)) (c .if1 .passes)
 done c =
     let b = c .before in
@@ -280,15 +350,15 @@ done c =
     let ths : List ℕ = start b .args .thresholds .now in
     let p = start b .pre in
     ⊎-elim
-    (λ w. rw (w .1, w .2, w .3, w .4, w .5, w .8)
-    (left (omega arith) (p .0) (o .inv .3 .ready) (p .3) (o .inv .2)
+    (λ w. rw (w .1, w .2, w .3, w .4, w .5, w .6, w .9)
+    (left (omega arith) (p .0) (o .inv .3 .ready) (p .3) (o .inv .2) (o .inv .5)
     (ap (λ (l : List ℕ). passesFrom (codeAt b) (o .count) l (between b)) (sym (drop-of-length-le ths (w .0 .taken))) ∙ o .inv .4)))
-    (λ w. rw (w .10, w .11, w .12, w .13, w .14, w .17)
+    (λ w. rw (w .10, w .11, w .12, w .13, w .14, w .15, w .18)
     (let i = w .3 in
     let x = progress (i .result) (i .syndrome) (i .difference) (i .tally) in
     let h : i .place .symbol ≡ dataCount (codeAt b) = branch-over (start b .pre .0 .usable .table) (i .inv .0) (omega (arith, b .before .before .data-count .ensures, w .5 .left)) in
     let over : length ths ≤ w .8 .result = omega (arith, w .9 .taken) in
-    left (omega arith) (p .0) (kept-by _ _ _ _ _ (o .inv .3 .ready) (i .inv .1) .ready) (p .3) (i .inv .2)
+    left (omega arith) (p .0) (kept-by _ _ _ _ _ (o .inv .3 .ready) (i .inv .1) .ready) (p .3) (i .inv .2) (i .inv .3 ∙ o .inv .5)
     (ap (λ (l : List ℕ). passesFrom (codeAt b) (o .count + 1) l x) (sym (drop-of-length-le ths over) ∙ w .8 .ensures .2)
     ∙ sym (pass-idle (codeAt b) (o .count) (o .p) (i .place .symbol) ths (between b) x (omega arith) h (i .inv .1) (omega (arith, w .7 .taken))) ∙ o .inv .4)))
     (c .if1 .came)
@@ -311,9 +381,12 @@ same-length-3 c = done (c .before .before) .len-difference
 same-length-4 : tie.Need-same-length-4 Inv-loop3 μ-loop3 Inv-loop2 μ-loop2 Inv-loop μ-loop
 same-length-4 c = done (c .before .before) .len-zeros
 
+same-length-5 : tie.Need-same-length-5 Inv-loop3 μ-loop3 Inv-loop2 μ-loop2 Inv-loop μ-loop
+same-length-5 c = ap length (done (c .before .before) .counters)
+
 returns : tie.Need-returns Inv-loop3 μ-loop3 Inv-loop2 μ-loop2 Inv-loop μ-loop
 unfolding runOf
-returns c = let d = done (c .before .before) in (rw (c .passed .ensures) (sym (passes-nil _ _ _) ∙ d .ran), d .counts)
+returns c = let d = done (c .before .before) in (rw (c .passed .ensures) (sym (passes-nil _ _ _) ∙ d .ran), (d .counts, d .counters))
 
 pub run-counted-spec : {M : Type 1} → statement M
 run-counted-spec =
@@ -331,9 +404,11 @@ run-counted-spec =
     shared-slice-read-threshold
     opening-requires
     loop2-holds
+    open-from-requires
     loop3-holds
     visit-requires
-    along-requires
+    add-open-from
+    open-from-requires-2
     loop3-less
     loop3-again
     onward-requires
@@ -352,4 +427,5 @@ run-counted-spec =
     same-length-2
     same-length-3
     same-length-4
+    same-length-5
     returns)

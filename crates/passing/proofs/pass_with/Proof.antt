@@ -14,6 +14,7 @@ use Rattle.params.specs.Codes.{codeBy}
 use Rattle.params.specs.Sizes.{sizes-fit}
 use Rattle.tally.specs.declared.Tally.{Tally}
 use Rattle.theory.specs.Answers.{PassTaken, pass-taken, table-usable}
+use Rattle.theory.specs.Counters.{none-clear}
 use Rattle.theory.specs.Outcomes.{left-as-lent, left-as-done}
 use Rattle.theory.specs.Statements.{pass-falls}
 use Rattle.passing.specs.Once.{taken-ready, once-state, once-changes}
@@ -77,8 +78,8 @@ room c = start (c .before) .pre .2 (table-usable _ (taken c .table) .table .size
 counted : (c : tie.Else1) → let n = c .before .before .before .before .before .before in n .data-count .result ≡ start (c .before) .args .code .b * start (c .before) .args .code .k
 counted c = c .before .before .before .before .before .before .data-count .ensures
 
-cast-t25 : tie.Need-cast-t25
-cast-t25 c = omega (arith, taken c .small)
+cast-t26 : tie.Need-cast-t26
+cast-t26 c = omega (arith, taken c .small)
 
 opened-requires : tie.Need-opened-requires
 opened-requires c κs = search needs
@@ -92,14 +93,18 @@ slice-relend-prefix-run c = let e = c .before .before .before .before .before in
 slice-aggregate-run-2 : tie.Need-slice-aggregate-run-2
 slice-aggregate-run-2 c = let e = c .before .before .before .before .before .before in sym (length-take-le _ _ (omega (arith, counted e, room e)))
 
+slice-aggregate-run-3 : tie.Need-slice-aggregate-run-3
+slice-aggregate-run-3 c = search needs
+
 run-requires : tie.Need-run-requires
 run-requires c κs =
-    let o = c .before .before .before .before .before in
+    let o = c .before .before .before .before .before .before in
     let e = o .before in (
       taken-ready _ _ _ (taken e),
       omega arith,
       ap (λ (t : Tally). t .changes) (o .opened .ensures),
       length-take-le _ _ (omega (arith, counted e, room e)) ∙ counted e,
+      none-clear,
     )
 
 same-length-4 : tie.Need-same-length-4
@@ -117,8 +122,8 @@ same-length-7 c = search needs
 returns-2 : tie.Need-returns-2
 unfolding passOutcome
 returns-2 c =
-    let r = c .before .before .before .before .before .before .before .before in
-    let o = r .before .before .before .before .before .before in
+    let r = c .before .before .before .before .before .before .before .before .before in
+    let o = r .before .before .before .before .before .before .before in
     let done = o .before in
     let b = start (done .before) in
     let n = sym (done .if1 .left) ∙ number (done .before) in
@@ -138,11 +143,12 @@ pass-with-spec =
     same-length-2
     same-length-3
     returns
-    cast-t25
+    cast-t26
     opened-requires
     slice-aggregate-run
     slice-relend-prefix-run
     slice-aggregate-run-2
+    slice-aggregate-run-3
     run-requires
     same-length-4
     same-length-5

@@ -1,7 +1,7 @@
 -- `decode_into`: what `decode_with` leaves, with the margins filled from it where it is done, is decode's outcome.
 use borrow.Author.Needs.{needs}
 use mathlib.Core.Path.{_≡_, sym, _∙_, ap}
-use mathlib.Core.Bool.{_&&_}
+use mathlib.Core.Bool.{Bool, _&&_}
 use Prim.Native.Nat.{ℕ, _*_}
 use native.Mathlib.Omega.{arith}
 use lib.Dec.{eqb}
@@ -11,7 +11,7 @@ use Rattle.model.specs.Code.{Code}
 use Rattle.model.specs.Decoder.{State, stateBy, marginsOf}
 use Rattle.params.specs.Codes.{codeBy}
 use Rattle.params.specs.Sizes.{sizes-fit}
-use Rattle.theory.specs.Answers.{eqb-true, decode-opens}
+use Rattle.theory.specs.Answers.{and-true, eqb-true, decode-opens}
 use Rattle.theory.specs.Outcomes.{left-as-lent, left-as-done, outcome-number, outcome-lent, outcome-done}
 use Rattle.receiver.specs.Received.{Ran, ranOutcome}
 use Rattle.receiver.proofs.decode_into.Statement.{statement}
@@ -19,33 +19,40 @@ use Rattle.receiver.proofs.decode_into.Tie as tie
 
 data-count-requires : tie.Need-data-count-requires
 data-count-requires c κs =
-    let b = c .before .before .before .before .before .before .before in
+    let b = c .before .before .before .before .before .before .before .before in
     omega (arith, sizes-fit (b .args .code .k) (b .args .code .b) (b .pre .0) (b .pre .1))
 
+also-requires : tie.Need-also-requires
+also-requires c κs = search needs
+
 decode-with-requires : tie.Need-decode-with-requires
-decode-with-requires c κs = search needs
+decode-with-requires c κs =
+    let t = c .before .before .before .before .before in
+    let p = t .before .before .before .before .before .before .before .before .before .before .pre in
+    (p .0, p .1, p .2, λ e. p .3 (and-true _ _ (sym (t .also .ensures) ∙ e) .0))
 
 -- the places that later ones look back to: the start and the decode
 abbrev start : tie.After-decode-with → tie.Start
-start c = c .before .before .before .before .before .before .before .before .before .before .before .before .before
+start c = c .before .before .before .before .before .before .before .before .before .before .before .before .before .before .before .before
 
 abbrev decode : tie.After-struct-known → tie.After-decode-with
-decode c = c .before .before .before .before .before .before .before .before .before
+decode c = c .before .before .before .before .before .before .before .before .before .before .before
 
 -- the number returned is decode's, with the margins among the lent buffers
 number : (p : tie.After-decode-with)
     → let a = start p .args in
     let code = codeBy (a .code) (a .positions .now) in
     let lent = stateBy (a .result .now) (a .syndrome .now) (a .difference .now) in
-    p .decode-with .result .number ≡ decodeAnswer code (eqb (length (a .margins .now)) (a .code .b * a .code .k) && decodeFits code (a .page .now) lent) (a .page .now) (a .thresholds .now)
+    p .decode-with .result .number
+    ≡ decodeAnswer code ((a .others && eqb (length (a .margins .now)) (a .code .b * a .code .k)) && decodeFits code (a .page .now) lent) (a .page .now) (a .thresholds .now)
 unfolding ranOutcome
 number p =
     let a = start p .args in
     let code : Code = codeBy (a .code) (a .positions .now) in
     let lent : State = stateBy (a .result .now) (a .syndrome .now) (a .difference .now) in
     outcome-number _ _ _ _ _ (p .decode-with .ensures .0)
-    ∙ ap (λ (n : ℕ). decodeAnswer code (eqb (length (a .margins .now)) n && decodeFits code (a .page .now) lent) (a .page .now) (a .thresholds .now))
-    (p .before .before .before .before .before .data-count .ensures)
+    ∙ ap (λ (b : Bool). decodeAnswer code (b && decodeFits code (a .page .now) lent) (a .page .now) (a .thresholds .now))
+    (p .before .before .before .before .before .before .also .ensures ∙ ap (λ (n : ℕ). a .others && eqb (length (a .margins .now)) n) (p .before .before .before .before .before .before .before .data-count .ensures))
 
 same-length : tie.Need-same-length
 same-length c = search needs
@@ -67,7 +74,7 @@ returns c =
     let same = outcome-lent _ _ _ _ _ (p .decode-with .ensures .0) (c .if1 .taken) in (
       ap (λ (x : Ran). record { number = p .decode-with .result .number; left = record { state = x .state; margins = a .margins .now; counts = x .counts } }) same
           ∙ left-as-lent _ _ _ _ (number p) (c .if1 .taken),
-      (λ z. absurd (c .if1 .taken z), λ z. absurd (c .if1 .taken z)),
+      (λ z. absurd (c .if1 .taken z), (λ z. absurd (c .if1 .taken z), p .decode-with .ensures .1 .1 .1 .1)),
     )
 
 fill-requires : tie.Need-fill-requires
@@ -78,7 +85,8 @@ fill-requires c κs =
     let lent : State = stateBy (a .result .now) (a .syndrome .now) (a .difference .now) in (
       p .decode-with .ensures .1 .0 (done .if1 .left),
       eqb-true (length (a .margins .now)) (a .code .b * a .code .k)
-          (decode-opens _ (eqb (length (a .margins .now)) (a .code .b * a .code .k)) (a .page .now) (a .thresholds .now) lent (sym (number p) ∙ done .if1 .left) .0),
+          (and-true (a .others) _
+          (decode-opens _ (a .others && eqb (length (a .margins .now)) (a .code .b * a .code .k)) (a .page .now) (a .thresholds .now) lent (sym (number p) ∙ done .if1 .left) .0) .1),
     )
 
 same-length-5 : tie.Need-same-length-5
@@ -96,6 +104,12 @@ same-length-8 c = search needs
 same-length-9 : tie.Need-same-length-9
 same-length-9 c = search needs
 
+same-length-10 : tie.Need-same-length-10
+same-length-10 c = search needs
+
+same-length-11 : tie.Need-same-length-11
+same-length-11 c = search needs
+
 returns-2 : tie.Need-returns-2
 unfolding ranOutcome decodeOutcome
 returns-2 c =
@@ -108,7 +122,7 @@ returns-2 c =
     let made = outcome-done _ _ _ _ _ (p .decode-with .ensures .0) z in (
       left-as-done _ _ _ _ (sym z ∙ number p)
           (λ i. record { state = made i .state; margins = (f .fill .ensures _ ∙ ap (λ (x : Ran). marginsOf code (x .state)) made) i; counts = made i .counts }),
-      (λ _. p .decode-with .ensures .1 .1 .0 z, λ _. p .decode-with .ensures .1 .1 .1 z),
+      (λ _. p .decode-with .ensures .1 .1 .0 z, (λ _. p .decode-with .ensures .1 .1 .1 .0 z, p .decode-with .ensures .1 .1 .1 .1)),
     )
 
 pub decode-into-spec : {M : Type 1} → statement M
@@ -116,16 +130,19 @@ decode-into-spec =
     tie.close
     (tie.spec
     data-count-requires
+    also-requires
     decode-with-requires
     same-length
     same-length-2
     same-length-3
     same-length-4
+    same-length-5
     returns
     fill-requires
-    same-length-5
     same-length-6
     same-length-7
     same-length-8
     same-length-9
+    same-length-10
+    same-length-11
     returns-2)

@@ -1,6 +1,6 @@
 -- `decode_with`: the tests give the number; refused, all is as it was lent; done, the page is decoded, and demand 3 holds of what was taken.
 use borrow.Author.Needs.{needs}
-use mathlib.Core.Path.{_≡_, sym, _∙_, ap}
+use mathlib.Core.Path.{_≡_, refl, sym, _∙_, ap}
 use mathlib.Core.Bool.{Bool, _&&_}
 use Prim.Native.Nat.{ℕ, _+_, _*_, _≤_}
 use lib.Dec.{eqb}
@@ -11,7 +11,7 @@ use Rattle.model.specs.Calls.{decodeFits, decodeAnswer}
 use Rattle.model.specs.Decoder.{stateBy}
 use Rattle.params.specs.Codes.{codeBy}
 use Rattle.params.specs.Sizes.{sizes-fit}
-use Rattle.theory.specs.Answers.{Taken, decode-taken}
+use Rattle.theory.specs.Answers.{Taken, decode-taken, decode-opens}
 use Rattle.theory.specs.Outcomes.{left-as-lent, left-as-done}
 use Rattle.theory.specs.Statements.{decode-falls, decode-recovers}
 use Rattle.visits.specs.Progress.{Progress}
@@ -22,7 +22,7 @@ use Rattle.receiver.proofs.decode_with.Tie as tie
 
 data-count-requires : tie.Need-data-count-requires
 data-count-requires c κs =
-    let b = c .before .before .before .before .before .before .before in
+    let b = c .before .before .before .before .before .before .before .before in
     omega (arith, sizes-fit (b .args .code .k) (b .args .code .b) (b .pre .0) (b .pre .1))
 
 decode-fits-requires : tie.Need-decode-fits-requires
@@ -33,7 +33,7 @@ decode-answer-requires c κs = search needs
 
 -- the start, from where the number is known
 abbrev start : tie.After-decode-answer → tie.Start
-start c = c .before .before .before .before .before .before .before .before .before .before
+start c = c .before .before .before .before .before .before .before .before .before .before .before
 
 -- the number returned is decode's
 number : (p : tie.After-decode-answer)
@@ -58,7 +58,7 @@ returns c =
     let refused = c .before in
     rw (c .opened .ensures) (
       left-as-lent _ _ _ _ (number (refused .before)) (refused .if1 .taken),
-      (λ e. absurd (refused .if1 .taken e), (λ e. absurd (refused .if1 .taken e), λ e. absurd (refused .if1 .taken e))),
+      (λ e. absurd (refused .if1 .taken e), (λ e. absurd (refused .if1 .taken e), (λ e. absurd (refused .if1 .taken e), refl))),
     )
 
 -- what is decoded where it is not refused, and that the buffer for the zeros is large enough
@@ -83,7 +83,15 @@ slice-aggregate-decode-page : tie.Need-slice-aggregate-decode-page
 slice-aggregate-decode-page c = sym (length-take-le _ _ (part (c .before)))
 
 decode-page-requires : tie.Need-decode-page-requires
-decode-page-requires c κs = let e = c .before .before .before .before in (taken e, length-take-le _ _ (part e) ∙ e .before .before .before .data-count .ensures)
+decode-page-requires c κs =
+    let e = c .before .before .before .before .before in
+    let b = start (e .before) in
+    let a = b .args in (
+      taken e,
+      length-take-le _ _ (part e) ∙ e .before .before .before .data-count .ensures,
+      b .pre .3
+          (decode-opens _ (a .others) (a .page .now) (a .thresholds .now) (stateBy (a .result .now) (a .syndrome .now) (a .difference .now)) (sym (number (e .before)) ∙ e .if1 .left) .0),
+    )
 
 same-length : tie.Need-same-length
 same-length c = search needs
@@ -97,11 +105,14 @@ same-length-3 c = search needs
 same-length-4 : tie.Need-same-length-4
 same-length-4 c = search needs
 
+same-length-5 : tie.Need-same-length-5
+same-length-5 c = search needs
+
 returns-2 : tie.Need-returns-2
 unfolding ranOutcome
 returns-2 c =
-    let d = c .before .before .before .before .before .before .before .before in
-    let done = d .before .before .before .before .before in
+    let d = c .before .before .before .before .before .before .before .before .before .before in
+    let done = d .before .before .before .before .before .before in
     let p = done .before in
     let a = start p .args in
     let code = codeBy (a .code) (a .positions .now) in
@@ -112,11 +123,14 @@ returns-2 c =
       (
         λ z. left-by code (a .page .now) (a .thresholds .now) lent (taken done .opens) _ _ e (omega (arith, room done, same-length c))
             (λ m.
-            let z = d .decode-page .ensures .1 m in
+            let z = d .decode-page .ensures .1 .0 m in
             take-at _ _ _ (ap length z ∙ length-zeroCounts _ _) ∙ z),
         (
           λ z. rw (ap (λ (x : Progress). x .tally) e) (decode-falls code (a .others) (a .page .now) (a .thresholds .now) lent (sym n)),
-          λ z. rw (ap (λ (x : Progress). x .state .result) e) (decode-recovers code (a .others) (a .page .now) (a .thresholds .now) lent (sym n)),
+          (
+            λ z. rw (ap (λ (x : Progress). x .state .result) e) (decode-recovers code (a .others) (a .page .now) (a .thresholds .now) lent (sym n)),
+            d .decode-page .ensures .1 .1,
+          ),
         ),
       ),
     )
@@ -137,4 +151,5 @@ decode-with-spec =
     same-length-2
     same-length-3
     same-length-4
+    same-length-5
     returns-2)

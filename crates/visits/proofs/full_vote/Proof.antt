@@ -20,26 +20,26 @@ array-borrow-prefix-es : tie.Need-array-borrow-prefix-es
 array-borrow-prefix-es c = search needs
 
 slice-aggregate-gather : tie.Need-slice-aggregate-gather
-slice-aggregate-gather c = sym (length-take-le _ _ (omega (arith, c .before .before .before .pre .0 .J-high)))
+slice-aggregate-gather c = sym (length-take-le _ _ (omega (arith, c .before .before .before .before .pre .0 .J-high)))
 
 gather-requires : tie.Need-gather-requires
 gather-requires c κs =
-    let p = c .before .before .before .pre in
+    let p = c .before .before .before .before .pre in
     (p .0, p .1, length-take-le _ _ (omega (arith, p .0 .J-high)))
 
 array-share-prefix-es : tie.Need-array-share-prefix-es
 array-share-prefix-es c =
-    let a = c .before .before .before .before .before .args in
+    let a = c .before .before .before .before .before .before .args in
     simp length-append (omega (arith, ap length (c .before .gather .ensures), estimates-length (a .code .k) (a .positions .now) (a .j) (a .own) (a .syndrome .now)))
 
 -- the part of the buffer that `decided` reads holds the estimates
 part : (c : tie.After-es3)
-    → Gathered (estimatesBy (c .before .before .before .before .before .before .args .code .k) (c .before .before .before .before .before .before .args .positions .now) (c .before .before .before .before .before .before .args .j) (c .before .before .before .before .before .before .args .own) (c .before .before .before .before .before .before .args .syndrome .now))
-    (take (length (c .before .before .before .before .before .before .args .positions .now) + 1)
-    (c .before .before .gather .last .1 .1 .1 .1 .1 .0 ++ drop (length (c .before .before .before .before .before .before .args .positions .now) + 1) (replicate 33 0)))
-    (length (c .before .before .before .before .before .before .args .positions .now) + 1)
+    → Gathered (estimatesBy (c .before .before .before .before .before .before .before .args .code .k) (c .before .before .before .before .before .before .before .args .positions .now) (c .before .before .before .before .before .before .before .args .j) (c .before .before .before .before .before .before .before .args .own) (c .before .before .before .before .before .before .before .args .syndrome .now))
+    (take (length (c .before .before .before .before .before .before .before .args .positions .now) + 1)
+    (c .before .before .gather .last .1 .1 .1 .1 .1 .0 ++ drop (length (c .before .before .before .before .before .before .before .args .positions .now) + 1) (replicate 33 0)))
+    (length (c .before .before .before .before .before .before .before .args .positions .now) + 1)
 part c =
-    let b = c .before .before .before .before .before .before in
+    let b = c .before .before .before .before .before .before .before in
     gathered (b .pre .0) (b .args .j) (b .args .own) _ _ _ (c .before .before .gather .ensures) refl
 
 slice-aggregate-decided : tie.Need-slice-aggregate-decided
@@ -47,12 +47,18 @@ slice-aggregate-decided c = sym (part c .len)
 
 decided-requires : tie.Need-decided-requires
 decided-requires c κs =
-    let g = part c in
-    let p = c .before .before .before .before .before .before .pre in
-    (g .low, g .high, p .2 ∙ sym (ap (λ (l : List ℕ). count 0 l) (g .same)), p .3)
+    let g = part (c .before) in
+    let p = c .before .before .before .before .before .before .before .before .pre in
+    (g .low, g .high, p .2 ∙ sym (ap (λ (l : List ℕ). count 0 l) (g .same)), p .3, p .4)
+
+same-length : tie.Need-same-length
+same-length c = search needs
 
 returns : tie.Need-returns
-returns c = c .decided .ensures ∙ ap (λ (l : List ℕ). toSubtract (c .before .before .before .before .before .before .before .args .threshold) l) (part (c .before) .same)
+returns c =
+    let d = c .before .before in
+    let e = d .decided .ensures in
+    (e .0 ∙ ap (λ (l : List ℕ). toSubtract (d .before .before .before .before .before .before .before .before .before .args .threshold) l) (part (d .before .before) .same), e .1)
 
 pub full-vote-spec : {M : Type 1} → statement M
 full-vote-spec =
@@ -65,4 +71,5 @@ full-vote-spec =
     array-share-prefix-es
     slice-aggregate-decided
     decided-requires
+    same-length
     returns)

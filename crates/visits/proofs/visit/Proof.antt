@@ -11,20 +11,20 @@ use Rattle.params.specs.Codes.{codeBy}
 use Rattle.checks.specs.Places.{Found, found}
 use Rattle.zeros.specs.Counts.{length-zeroCounts, zeroCounts-at}
 use Rattle.visits.specs.Decisions.{toSubtract}
-use Rattle.visits.specs.Estimates.{estimatesAt}
+use Rattle.visits.specs.Estimates.{estimatesAt, zeros-counted}
 use Rattle.visits.specs.Progress.{both, at-table, ready-subtract, ready-symbol, changed-state, visit-left, visit-made}
 use Rattle.visits.proofs.visit.Statement.{statement}
 use Rattle.visits.proofs.visit.Tie as tie
 
 -- the places: the start seen from where the slices are known and from the vote, and the vote seen from the end
-abbrev begin : tie.After-slice-known5 → tie.Start
-begin c = c .before .before .before .before .before .before .before
+abbrev begin : tie.After-slice-known6 → tie.Start
+begin c = c .before .before .before .before .before .before .before .before
 
-abbrev start : tie.After-voted → tie.Start
-start c = begin (c .before .before .before .before)
+abbrev start : tie.After-full-vote → tie.Start
+start c = begin (c .before .before .before .before .before .before)
 
-abbrev vote : tie.After-changed → tie.After-voted
-vote c = c .before .before .before .before .before .before .before .before .before .before .before .before .before .before .before .before
+abbrev vote : tie.After-changed → tie.After-full-vote
+vote c = c .before .before .before .before .before .before .before .before .before .before .before .before .before .before .before .before .before .before
 
 abbrev code : tie.Start → Code
 code c = codeBy (c .args .code) (c .args .positions .now)
@@ -34,69 +34,85 @@ place : (c : tie.Start) → Found (code c) (c .args .syndrome .now) (c .args .pl
 place c = found (at-table _ _ (c .pre .0)) (c .pre .1)
 
 -- what the vote says to subtract, and that it is a symbol
-subtracted : (c : tie.After-voted)
-    → c .voted .result ≡ toSubtract (start c .args .threshold) (estimatesAt (code (start c)) (start c .args .place .symbol) (getD (start c .args .difference .now) (start c .args .place .symbol) 0) (start c .args .syndrome .now))
+subtracted : (c : tie.After-full-vote)
+    → c .full-vote .result ≡ toSubtract (start c .args .threshold) (estimatesAt (code (start c)) (start c .args .place .symbol) (getD (start c .args .difference .now) (start c .args .place .symbol) 0) (start c .args .syndrome .now))
 subtracted c =
     let b = start c in
-    c .voted .ensures ∙ ap (λ (is : List ℕ). toSubtract (b .args .threshold) (getD (b .args .difference .now) (b .args .place .symbol) 0 ∷ symbolsAt (b .args .syndrome .now) is)) (place b .checks-are)
+    c .full-vote .ensures .0 ∙ ap (λ (is : List ℕ). toSubtract (b .args .threshold) (getD (b .args .difference .now) (b .args .place .symbol) 0 ∷ symbolsAt (b .args .syndrome .now) is)) (place b .checks-are)
 
-symbol : (c : tie.After-voted) → c .voted .result < start c .args .code .q
+symbol : (c : tie.After-full-vote) → c .full-vote .result < start c .args .code .q
 symbol c = let b = start c in omega (arith, subtracted c, ready-subtract _ _ (b .pre .0) (b .args .threshold) (b .args .place .symbol))
 
 slice-read-own : tie.Need-slice-read-own
 slice-read-own c = let b = begin c in omega (arith, b .pre .1 .inside, b .pre .0 .sized .len-difference)
 
 sub-index : tie.Need-sub-index
-sub-index c = place (c .before .before .before .before .before .before) .start-low
+sub-index c = place (c .before .before .before .before .before .before .before) .start-low
 
-mul-voted : tie.Need-mul-voted
-mul-voted c = let g = place (begin c) in omega (arith, g .few, g .first-last)
-
-sub-voted : tie.Need-sub-voted
-sub-voted c = place (begin c) .first-last
-
-part-voted-start : tie.Need-part-voted-start
-part-voted-start c = place (begin c) .first-last
-
-part-voted-end : tie.Need-part-voted-end
-part-voted-end c = place (begin c) .last-in
-
-slice-read-voted : tie.Need-slice-read-voted
-slice-read-voted c =
-    let b = begin (c .before .before) in
+slice-read-all : tie.Need-slice-read-all
+slice-read-all c =
+    let b = begin (c .before) in
     omega (arith, b .pre .1 .inside, ap length (b .pre .3), length-zeroCounts (code b) (b .args .syndrome .now))
 
-voted-requires : tie.Need-voted-requires
-voted-requires c κs =
-    let b = begin (c .before .before .before) in
+equal-requires : tie.Need-equal-requires
+equal-requires c κs = search needs
+
+-- the number of zeros is small, since they do not settle the vote
+add-all : tie.Need-add-all
+add-all c =
+    let b = begin (c .before .before) in
+    omega (arith, c .equal .ensures .0, b .pre .5, b .pre .0 .usable .table .sizes .J-high)
+
+mul-full-vote : tie.Need-mul-full-vote
+mul-full-vote c = let g = place (begin (c .before .before)) in omega (arith, g .few, g .first-last)
+
+sub-full-vote : tie.Need-sub-full-vote
+sub-full-vote c = place (begin (c .before .before)) .first-last
+
+part-full-vote-start : tie.Need-part-full-vote-start
+part-full-vote-start c = place (begin (c .before .before)) .first-last
+
+part-full-vote-end : tie.Need-part-full-vote-end
+part-full-vote-end c = place (begin (c .before .before)) .last-in
+
+full-vote-requires : tie.Need-full-vote-requires
+full-vote-requires c κs =
+    let q = c .before .before .before in
+    let b = begin (q .before .before) in
     let a = b .args in
     let g = place b in (
       g .checks-lent,
       g .index-low,
-      ap (λ (l : List ℕ). getD l (a .place .symbol) 0) (b .pre .3) ∙ zeroCounts-at (code b) (a .syndrome .now) (a .place .symbol) (b .pre .1 .inside)
-          ∙ ap (λ (is : List ℕ). count 0 (symbolsAt (a .syndrome .now) is)) (sym (g .checks-are)),
+      zeros-counted (getD (a .difference .now) (a .place .symbol) 0) _ _ _
+          (ap (λ (l : List ℕ). getD l (a .place .symbol) 0) (b .pre .3) ∙ zeroCounts-at (code b) (a .syndrome .now) (a .place .symbol) (b .pre .1 .inside)
+          ∙ ap (λ (is : List ℕ). count 0 (symbolsAt (a .syndrome .now) is)) (sym (g .checks-are)))
+          (q .equal .ensures .0),
+      omega (arith, q .equal .ensures .0, b .pre .5, b .pre .0 .usable .table .sizes .J-high),
+      b .pre .4,
     )
 
 same-length : tie.Need-same-length
 same-length c = search needs
 
 returns : tie.Need-returns
-returns c = (visit-left _ _ _ _ _ _ (sym (c .if1 .taken) ∙ subtracted (c .before)), start (c .before) .pre .3)
+returns c =
+    let v = c .before .before .before in
+    (visit-left _ _ _ _ _ _ (sym (c .if1 .taken) ∙ subtracted v), (start v .pre .3, v .full-vote .ensures .1))
 
 subtract-symbol-requires : tie.Need-subtract-symbol-requires
 subtract-symbol-requires c κs =
-    let v = c .before .before .before in
+    let v = c .before .before .before .before .before in
     let p = start v .pre in
     ready-symbol _ _ (p .0) _ _ (p .1 .inside) (symbol v)
 
 subtract-checks-requires : tie.Need-subtract-checks-requires
 subtract-checks-requires c κs =
-    let v = c .before .before .before .before .before .before .before .before .before .before in
+    let v = c .before .before .before .before .before .before .before .before .before .before .before .before in
     let p = start v .pre in
     (at-table _ _ (p .0), p .1, p .0 .bytes, symbol v, p .0 .sized .in-syndrome, p .3)
 
 changed-requires : tie.Need-changed-requires
-changed-requires c κs = start (c .before .before .before .before .before .before .before .before .before .before .before .before .before .before .before) .pre .2
+changed-requires c κs = start (c .before .before .before .before .before .before .before .before .before .before .before .before .before .before .before .before .before) .pre .2
 
 same-length-2 : tie.Need-same-length-2
 same-length-2 c = search needs
@@ -110,12 +126,18 @@ same-length-4 c = search needs
 same-length-5 : tie.Need-same-length-5
 same-length-5 c = search needs
 
+same-length-6 : tie.Need-same-length-6
+same-length-6 c = search needs
+
+same-length-7 : tie.Need-same-length-7
+same-length-7 c = search needs
+
 returns-2 : tie.Need-returns-2
 returns-2 c =
     let v = vote c in
     let e = c .before .before .before .before .before .before .before .before .before .before .before .before .subtract-symbol .ensures in
     let s = c .before .before .before .before .before .subtract-checks .ensures in
-    (both (changed-state _ _ _ _ _ _ _ (e .0) (s .0) (e .1)) (c .changed .ensures) ∙ visit-made _ _ _ _ _ _ (v .voted .result) (subtracted v) (c .before .before .before .before .before .before .before .before .before .before .before .before .before .before .before .if1 .left), s .1)
+    (both (changed-state _ _ _ _ _ _ _ (e .0) (s .0) (e .1)) (c .changed .ensures) ∙ visit-made _ _ _ _ _ _ (v .full-vote .result) (subtracted v) (c .before .before .before .before .before .before .before .before .before .before .before .before .before .before .before .if1 .left), (s .1, v .full-vote .ensures .1))
 
 pub visit-spec : {M : Type 1} → statement M
 visit-spec =
@@ -123,19 +145,23 @@ visit-spec =
     (tie.spec
     sub-index
     slice-read-own
-    mul-voted
-    sub-voted
-    part-voted-start
-    part-voted-end
-    slice-read-voted
-    voted-requires
+    slice-read-all
+    equal-requires
+    add-all
+    mul-full-vote
+    sub-full-vote
+    part-full-vote-start
+    part-full-vote-end
+    full-vote-requires
     same-length
+    same-length-2
     returns
     subtract-symbol-requires
     subtract-checks-requires
     changed-requires
-    same-length-2
     same-length-3
     same-length-4
     same-length-5
+    same-length-6
+    same-length-7
     returns-2)

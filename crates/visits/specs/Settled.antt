@@ -1,0 +1,58 @@
+-- Visits that the zeros at the checks settle: they change nothing, and can be passed over.
+use mathlib.Core.Path.{_≡_, sym, ap, _∙_}
+use mathlib.Core.List.{List}
+use Prim.Native.Nat.{ℕ, _+_, _≤_, _<_}
+use native.Mathlib.Decide.{ℕ-discrete}
+use native.Mathlib.Omega.{arith}
+use lib.ListN.{length, getD}
+use Rattle.model.specs.Code.{Code, dataCount, checksEach, checksOf}
+use Rattle.model.specs.Decoder.{Visit}
+use Rattle.model.specs.Symbols.{same, count, symbolsAt}
+use Rattle.theory.specs.Codes.{Usable, code-incidence}
+use Rattle.theory.specs.Counting.{count-cons, length-symbolsAt}
+use Rattle.checks.specs.declared.Place.{Place}
+use Rattle.zeros.specs.Counts.{zeroCounts, zeroCounts-at}
+use Rattle.visits.specs.Decisions.{subtract-by-zeros}
+use Rattle.visits.specs.Estimates.{estimatesAt}
+use Rattle.visits.specs.Progress.{progress, visitOf, visit-left}
+use Rattle.tally.specs.declared.Tally.{Tally}
+
+-- the zeros of data symbol j, counted twice, and t are more than J: the vote of its visit is settled
+abbrev pub Settled : ℕ → ℕ → List ℕ → List ℕ → ℕ → Type 0
+Settled J t d zs j = J < getD zs j 0 + same 0 (getD d j 0) + (getD zs j 0 + same 0 (getD d j 0)) + t
+
+-- it is not
+abbrev pub Open : ℕ → ℕ → List ℕ → List ℕ → ℕ → Type 0
+Open J t d zs j = getD zs j 0 + same 0 (getD d j 0) + (getD zs j 0 + same 0 (getD d j 0)) + t ≤ J
+
+-- r is from a to b, and all from a to r are settled
+pub record FirstOpen (J t : ℕ) (d zs : List ℕ) (a b r : ℕ) : Type 0 where
+  pub low : a ≤ r
+  pub high : r ≤ b
+  pub passed : (j : ℕ) → a ≤ j → j < r → Settled J t d zs j
+
+pub open-none : {J t a b : ℕ} {d zs : List ℕ} → a ≤ b → FirstOpen J t d zs a b a
+open-none h = record { low = omega arith; high = h; passed = (λ j l m. absurd (omega arith)) }
+
+pub open-more : {J t a b r : ℕ} {d zs : List ℕ} → FirstOpen J t d zs a b r → r < b → Settled J t d zs r → FirstOpen J t d zs a b (r + 1)
+open-more {J} {t} {a} {b} {r} {d} {zs} f h s = record {
+  low = omega (arith, f .low);
+  high = omega arith;
+  passed = (λ j l m. elim (ℕ-discrete j r) as (λ o. Settled J t d zs j) [ yes e ↦ rw e s | no n ↦ f .passed j l (omega arith) ]);
+}
+
+-- the first place of p's branch from symbol a on that is not settled, or the one after its last symbol
+pub record OpenFrom (J t : ℕ) (d zs : List ℕ) (p : Place) (a : ℕ) (r : Place) : Type 0 where
+  pub same : r ≡ record { symbol = r .symbol; start = p .start; end = p .end; first = p .first; last = p .last }
+  pub first : FirstOpen J t d zs a (p .end) (r .symbol)
+  pub open-here : r .symbol < p .end → Open J t d zs (r .symbol)
+
+-- a visit that is settled changes nothing
+pub settled-left : (c : Code) → Usable c → (r s d zs : List ℕ) (y : Tally) → zs ≡ zeroCounts c s → (t j : ℕ) → j < dataCount c → Settled (checksEach c) t d zs j
+    → progress r s d y ≡ visitOf c (record { symbol = j; threshold = t }) (progress r s d y)
+settled-left c u r s d zs y e t j h few =
+    let own : ℕ = getD d j 0 in
+    let es : List ℕ = symbolsAt s (checksOf c j) in
+    let z : getD zs j 0 ≡ count 0 es = ap (λ (l : List ℕ). getD l j 0) e ∙ zeroCounts-at c s j h in
+    visit-left c (record { symbol = j; threshold = t }) r s d y
+    (subtract-by-zeros t (estimatesAt c j own s) (omega (arith, z, few, count-cons 0 own es, length-symbolsAt s (checksOf c j), code-incidence c u .size j h)))
