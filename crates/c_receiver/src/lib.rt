@@ -1,27 +1,33 @@
 // The C form of decode with a buffer for the zeros lent: margins and counts are written as bytes.
 use params::Params;
 ghost use mathlib.Core.Path.{_≡_};
+ghost use mathlib.Core.Bool.{true};
 ghost use Prim.Native.Nat.{_*_, _≤_};
 ghost use lib.ListN.{length};
 ghost use Rattle.model.specs.Decoder.{stateBy, decodedCounts};
 ghost use Rattle.model.specs.Bytes.{cDecodeOutcome};
 ghost use Rattle.model.specs.Demand.{DecodeFalls, DecodeRecovers};
 ghost use Rattle.params.specs.Codes.{codeBy};
+ghost use Rattle.theory.specs.Counters.{Clear};
 
-// Decodes a received page, with the positions read and a buffer for the zeros. Margins and counts are written only when the call is done.
+// Decodes a received page, with the positions read, a buffer for the zeros, and the counters that are lent, or none; `others` says whether
+// these fit. Margins and counts are written only when the call is done.
 pub fn decode_into(
+    others: bool,
     code: Params,
     positions: &[u16],
     page: &[u8],
     thresholds: &[u8],
     zeros: &mut [u8],
+    counters: &mut [u8],
     result: &mut [u8],
     syndrome: &mut [u8],
     difference: &mut [u8],
     margins: &mut [u8],
     counts: &mut [u8],
 ) -> u32
-    requires { ⌜ (code .k ≤ 4294967295) × (code .b ≤ 4294967295) × (code .b * code .k ≤ 4096 → code .b * code .k ≤ length (now zeros)) ⌝ }
+    requires { ⌜ (code .k ≤ 4294967295) × (code .b ≤ 4294967295) × (code .b * code .k ≤ 4096 → code .b * code .k ≤ length (now zeros))
+        × (others ≡ true → Clear (now counters)) ⌝ }
     ensures outcome { λ r. ⌜ record {
       number = r;
       left = record {
@@ -29,21 +35,23 @@ pub fn decode_into(
         margins = now (margins .exit);
         counts = now (counts .exit);
       };
-    } ≡ cDecodeOutcome (codeBy code (now (positions .entry))) (now (page .entry)) (now (thresholds .entry))
+    } ≡ cDecodeOutcome (codeBy code (now (positions .entry))) others (now (page .entry)) (now (thresholds .entry))
         (stateBy (now (result .entry)) (now (syndrome .entry)) (now (difference .entry))) (now (margins .entry)) (now (counts .entry)) ⌝ }
     ensures falling { λ r. ⌜ (r ≡ 0 → DecodeFalls (codeBy code (now (positions .entry))) (now (thresholds .entry)) (now (page .entry))
         (decodedCounts (codeBy code (now (positions .entry))) (now (thresholds .entry)) (now (page .entry)))) ⌝ }
     ensures recovery { λ r. ⌜ (r ≡ 0 → DecodeRecovers (codeBy code (now (positions .entry))) (now (thresholds .entry)) (now (page .entry)) (now (result .exit))) ⌝ }
+    ensures kept { λ r. ⌜ now (counters .exit) ≡ now (counters .entry) ⌝ }
 {
     let n = params::data_count(code);
-    let others = answers::bytes_fit(margins.len(), n, counts.len());
+    let bytes = answers::bytes_fit(margins.len(), n, counts.len());
     let decoded = receiver::decode_with(
-        others,
+        answers::also(others, bytes),
         code,
         positions,
         page,
         thresholds,
         zeros,
+        counters,
         result,
         syndrome,
         difference,

@@ -115,11 +115,11 @@ module _ (q k b : ℕ) (xs ps : List ℕ) (e : xs ≡ kept ps) where
       outcome-read (λ l. explainAnswer (codeOf q k b l) (eqb (length answer) 24 && stateFits (codeOf q k b l) read) t j read)
       (λ l. explainedBytes (explained (codeOf q k b l) t j read)) answer (λ l u. refused-first (sizeTests (codeOf q k b l)) _ u)
 
-  pub decode-read : (page ts : List ℕ) (lent : State) (margins counts : List ℕ)
-      → cDecodeOutcome (codeOf q k b xs) page ts lent margins counts ≡ cDecodeOutcome (codeOf q k b ps) page ts lent margins counts
+  pub decode-read : (also : Bool) (page ts : List ℕ) (lent : State) (margins counts : List ℕ)
+      → cDecodeOutcome (codeOf q k b xs) also page ts lent margins counts ≡ cDecodeOutcome (codeOf q k b ps) also page ts lent margins counts
   unfolding cDecodeOutcome decodeAnswer pageTests tableTests sizeTests
-  decode-read page ts lent margins counts =
-      outcome-read (λ l. decodeAnswer (codeOf q k b l) ((eqb (length margins) (4 * (b * k)) && eqb (length counts) 16) && decodeFits (codeOf q k b l) page lent) page ts)
+  decode-read also page ts lent margins counts =
+      outcome-read (λ l. decodeAnswer (codeOf q k b l) ((also && (eqb (length margins) (4 * (b * k)) && eqb (length counts) 16)) && decodeFits (codeOf q k b l) page lent) page ts)
       (λ l.
       let st = decodedState (codeOf q k b l) ts page in
       record { state = st; margins = marginBytes (marginsOf (codeOf q k b l) st); counts = bytesOf (decodedCounts (codeOf q k b l) ts page) })
@@ -138,19 +138,19 @@ module _ (q k b : ℕ) (xs ps : List ℕ) (e : xs ≡ kept ps) where
   decoded-read others page ts lent z = sized-read (decode-taken (codeOf q k b xs) others page ts lent z .opens .usable .table .sizes)
 
   -- decode, whole: what holds with the positions that are read holds with those of the table
-  pub decode-whole : (page ts : List ℕ) (lent : State) (margins counts : List ℕ) (r : ℕ) (x : Decoded (List ℕ) (List ℕ))
-      → record { number = r; left = x } ≡ cDecodeOutcome (codeOf q k b xs) page ts lent margins counts
+  pub decode-whole : (also : Bool) (page ts : List ℕ) (lent : State) (margins counts : List ℕ) (r : ℕ) (x : Decoded (List ℕ) (List ℕ))
+      → record { number = r; left = x } ≡ cDecodeOutcome (codeOf q k b xs) also page ts lent margins counts
       → (r ≡ 0 → DecodeRecovers (codeOf q k b xs) ts page (x .state .result))
-      → (record { number = r; left = x } ≡ cDecodeOutcome (codeOf q k b ps) page ts lent margins counts)
+      → (record { number = r; left = x } ≡ cDecodeOutcome (codeOf q k b ps) also page ts lent margins counts)
       × (r ≡ 0 → DecodeFalls (codeOf q k b ps) ts page (decodedCounts (codeOf q k b ps) ts page))
       × (r ≡ 0 → DecodeRecovers (codeOf q k b ps) ts page (x .state .result))
   unfolding cDecodeOutcome
-  decode-whole page ts lent margins counts r x o f =
-      let others : Bool = eqb (length margins) (4 * (b * k)) && eqb (length counts) 16 in
+  decode-whole also page ts lent margins counts r x o f =
+      let others : Bool = also && (eqb (length margins) (4 * (b * k)) && eqb (length counts) 16) in
       let zero : r ≡ 0 → decodeAnswer (codeOf q k b xs) (others && decodeFits (codeOf q k b xs) page lent) page ts ≡ 0 =
       (λ z. sym (outcome-number _ _ _ r x o) ∙ z) in
       let same : r ≡ 0 → xs ≡ ps = (λ z. decoded-read others page ts lent (zero z)) in (
-        o ∙ decode-read page ts lent margins counts,
+        o ∙ decode-read also page ts lent margins counts,
         (λ z. decode-falls (codeOf q k b ps) others page ts lent
             (subst (λ (l : List ℕ). decodeAnswer (codeOf q k b l) (others && decodeFits (codeOf q k b l) page lent) page ts ≡ 0) (same z) (zero z))),
         (λ z. subst (λ (l : List ℕ). DecodeRecovers (codeOf q k b l) ts page (x .state .result)) (same z) (f z)),

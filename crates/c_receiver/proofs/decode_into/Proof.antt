@@ -21,25 +21,34 @@ use Rattle.c_receiver.proofs.decode_into.Tie as tie
 
 data-count-requires : tie.Need-data-count-requires
 data-count-requires c κs =
-    let b = c .before .before .before .before .before .before .before .before .before in
+    let b = c .before .before .before .before .before .before .before .before .before .before in
     omega (arith, sizes-fit (b .args .code .k) (b .args .code .b) (b .pre .0) (b .pre .1))
 
 bytes-fit-requires : tie.Need-bytes-fit-requires
 bytes-fit-requires c κs = search needs
 
+also-requires : tie.Need-also-requires
+also-requires c κs = search needs
+
 decode-with-requires : tie.Need-decode-with-requires
-decode-with-requires c κs = search needs
+decode-with-requires c κs =
+    let t = c .before .before .before .before .before in
+    let p = t .before .before .before .before .before .before .before .before .before .before .before .before .before .pre in
+    (p .0, p .1, p .2, λ e. p .3 (and-true _ _ (sym (t .also .ensures) ∙ e) .0))
 
 -- the places that later ones look back to: the start and the decode
 abbrev start : tie.After-decode-with → tie.Start
-start c = c .before .before .before .before .before .before .before .before .before .before .before .before .before .before .before .before
+start c = c .before .before .before .before .before .before .before .before .before .before .before .before .before .before .before .before .before .before .before
 
 abbrev decode : tie.After-struct-known → tie.After-decode-with
-decode c = c .before .before .before .before .before .before .before .before .before
+decode c = c .before .before .before .before .before .before .before .before .before .before .before
 
--- the lengths of the margins and of the counts
+-- the lengths of the margins and of the counts, and with them what else only this form lends
+abbrev bytes : tie.Start → Bool
+bytes b = eqb (length (b .args .margins .now)) (4 * (b .args .code .b * b .args .code .k)) && eqb (length (b .args .counts .now)) 16
+
 abbrev others : tie.Start → Bool
-others b = eqb (length (b .args .margins .now)) (4 * (b .args .code .b * b .args .code .k)) && eqb (length (b .args .counts .now)) 16
+others b = b .args .others && bytes b
 
 -- the number returned is decode's, with margins and counts among the lent buffers
 number : (p : tie.After-decode-with)
@@ -54,7 +63,9 @@ number p =
     let lent : State = stateBy (a .result .now) (a .syndrome .now) (a .difference .now) in
     outcome-number _ _ _ _ _ (p .decode-with .ensures .0)
     ∙ ap (λ (b : Bool). decodeAnswer code (b && decodeFits code (a .page .now) lent) (a .page .now) (a .thresholds .now))
-    (p .before .before .before .before .before .bytes-fit .ensures ∙ ap (λ (n : ℕ). eqb (length (a .margins .now)) (4 * n) && eqb (length (a .counts .now)) 16) (p .before .before .before .before .before .before .data-count .ensures))
+    (p .before .before .before .before .before .before .also .ensures
+    ∙ ap (λ (b : Bool). a .others && b)
+    (p .before .before .before .before .before .before .before .bytes-fit .ensures ∙ ap (λ (n : ℕ). eqb (length (a .margins .now)) (4 * n) && eqb (length (a .counts .now)) 16) (p .before .before .before .before .before .before .before .before .data-count .ensures)))
 
 -- where it is done, both lengths fit
 lengths : (c : tie.Else1)
@@ -64,7 +75,7 @@ lengths c =
     let p = decode (c .before) in
     let a = start p .args in
     let f = and-true (eqb (length (a .margins .now)) (4 * (a .code .b * a .code .k))) (eqb (length (a .counts .now)) 16)
-    (decode-opens _ (others (start p)) (a .page .now) (a .thresholds .now) (stateBy (a .result .now) (a .syndrome .now) (a .difference .now)) (sym (number p) ∙ c .if1 .left) .0) in
+    (and-true (a .others) _ (decode-opens _ (others (start p)) (a .page .now) (a .thresholds .now) (stateBy (a .result .now) (a .syndrome .now) (a .difference .now)) (sym (number p) ∙ c .if1 .left) .0) .1) in
     (eqb-true (length (a .margins .now)) (4 * (a .code .b * a .code .k)) (f .0), eqb-true (length (a .counts .now)) 16 (f .1))
 
 same-length : tie.Need-same-length
@@ -87,7 +98,7 @@ returns c =
     let same = outcome-lent _ _ _ _ _ (p .decode-with .ensures .0) (c .if1 .taken) in (
       ap (λ (x : Ran). record { number = p .decode-with .result .number; left = record { state = x .state; margins = a .margins .now; counts = a .counts .now } }) same
           ∙ left-as-lent _ _ _ _ (number p) (c .if1 .taken),
-      (λ z. absurd (c .if1 .taken z), λ z. absurd (c .if1 .taken z)),
+      (λ z. absurd (c .if1 .taken z), (λ z. absurd (c .if1 .taken z), p .decode-with .ensures .1 .1 .1 .1)),
     )
 
 put-margins-requires : tie.Need-put-margins-requires
@@ -116,6 +127,12 @@ same-length-9 c = search needs
 same-length-10 : tie.Need-same-length-10
 same-length-10 c = search needs
 
+same-length-11 : tie.Need-same-length-11
+same-length-11 c = search needs
+
+same-length-12 : tie.Need-same-length-12
+same-length-12 c = search needs
+
 returns-2 : tie.Need-returns-2
 unfolding ranOutcome cDecodeOutcome
 returns-2 c =
@@ -135,7 +152,7 @@ returns-2 c =
             margins = (margins .put-margins .ensures _ ∙ ap (λ (x : Ran). marginBytes (marginsOf code (x .state))) made) i;
             counts = (counts .put-counts .ensures ∙ ap (λ (x : Ran). bytesOf (x .counts)) made) i;
           }),
-      (λ _. decode-falls code (others (start p)) (a .page .now) (a .thresholds .now) lent (sym n), λ _. p .decode-with .ensures .1 .1 .1 z),
+      (λ _. decode-falls code (others (start p)) (a .page .now) (a .thresholds .now) lent (sym n), (λ _. p .decode-with .ensures .1 .1 .1 .0 z, p .decode-with .ensures .1 .1 .1 .1)),
     )
 
 pub decode-into-spec : {M : Type 1} → statement M
@@ -144,18 +161,21 @@ decode-into-spec =
     (tie.spec
     data-count-requires
     bytes-fit-requires
+    also-requires
     decode-with-requires
     same-length
     same-length-2
     same-length-3
     same-length-4
+    same-length-5
     returns
     put-margins-requires
     put-counts-requires
-    same-length-5
     same-length-6
     same-length-7
     same-length-8
     same-length-9
     same-length-10
+    same-length-11
+    same-length-12
     returns-2)

@@ -7,8 +7,8 @@ use Rattle.c_sized.proofs.decode_sized.Tie as tie
 
 data-count-requires : tie.Need-data-count-requires
 data-count-requires c κs =
-    let s = c .before .before .before .before .before .before .before .before in
-    omega (arith, sizes-fit (s .args .code .k) (s .args .code .b) (s .pre .0) (s .pre .1))
+    let a = c .before .before .before .before .before .before .before .before .before .args in
+    omega (arith, sizes-fit (a .k) (a .b) (omega arith) (omega arith))
 
 slice-aggregate-decode-into : tie.Need-slice-aggregate-decode-into
 slice-aggregate-decode-into c = search needs
@@ -31,6 +31,9 @@ same-length-4 c = search needs
 same-length-5 : tie.Need-same-length-5
 same-length-5 c = search needs
 
+same-length-6 : tie.Need-same-length-6
+same-length-6 c = search needs
+
 returns : tie.Need-returns
 returns c = search needs
 
@@ -39,9 +42,6 @@ slice-aggregate-decode-into-2 c = search needs
 
 decode-into-requires-2 : tie.Need-decode-into-requires-2
 decode-into-requires-2 c κs = search needs
-
-same-length-6 : tie.Need-same-length-6
-same-length-6 c = search needs
 
 same-length-7 : tie.Need-same-length-7
 same-length-7 c = search needs
@@ -54,6 +54,12 @@ same-length-9 c = search needs
 
 same-length-10 : tie.Need-same-length-10
 same-length-10 c = search needs
+
+same-length-11 : tie.Need-same-length-11
+same-length-11 c = search needs
+
+same-length-12 : tie.Need-same-length-12
+same-length-12 c = search needs
 
 returns-2 : tie.Need-returns-2
 returns-2 c = search needs
@@ -70,12 +76,14 @@ decode-sized-spec =
     same-length-3
     same-length-4
     same-length-5
+    same-length-6
     returns
     slice-aggregate-decode-into-2
     decode-into-requires-2
-    same-length-6
     same-length-7
     same-length-8
     same-length-9
     same-length-10
+    same-length-11
+    same-length-12
     returns-2)

@@ -1,0 +1,77 @@
+// The C form of decode with counters or none, which reads the positions of the table.
+ghost use mathlib.Core.Path.{_≡_};
+ghost use mathlib.Core.Bool.{true};
+ghost use Rattle.model.specs.Code.{codeOf};
+ghost use Rattle.model.specs.Decoder.{stateBy, decodedCounts};
+ghost use Rattle.model.specs.Bytes.{positionsOf, cDecodeOutcome};
+ghost use Rattle.model.specs.Demand.{DecodeFalls, DecodeRecovers};
+ghost use Rattle.theory.specs.Counters.{Clear};
+
+// Decodes a page, with the counters that are lent, or none; `others` says whether these fit. A small table is read into a small buffer, which costs less to clear.
+pub fn decode_read(
+    others: bool,
+    q: u32,
+    k: u32,
+    b: u32,
+    table: &[u8],
+    page: &[u8],
+    thresholds: &[u8],
+    counters: &mut [u8],
+    result: &mut [u8],
+    syndrome: &mut [u8],
+    difference: &mut [u8],
+    margins: &mut [u8],
+    counts: &mut [u8],
+) -> u32
+    requires { ⌜ (others ≡ true → Clear (now counters)) ⌝ }
+    ensures outcome { λ r. ⌜ record {
+      number = r;
+      left = record {
+        state = stateBy (now (result .exit)) (now (syndrome .exit)) (now (difference .exit));
+        margins = now (margins .exit);
+        counts = now (counts .exit);
+      };
+    } ≡ cDecodeOutcome (codeOf q k b (positionsOf (now (table .entry)))) others (now (page .entry)) (now (thresholds .entry))
+        (stateBy (now (result .entry)) (now (syndrome .entry)) (now (difference .entry))) (now (margins .entry)) (now (counts .entry)) ⌝ }
+    ensures falling { λ r. ⌜ (r ≡ 0 → DecodeFalls (codeOf q k b (positionsOf (now (table .entry)))) (now (thresholds .entry)) (now (page .entry))
+        (decodedCounts (codeOf q k b (positionsOf (now (table .entry)))) (now (thresholds .entry)) (now (page .entry)))) ⌝ }
+    ensures recovery { λ r. ⌜ (r ≡ 0 → DecodeRecovers (codeOf q k b (positionsOf (now (table .entry)))) (now (thresholds .entry)) (now (page .entry)) (now (result .exit))) ⌝ }
+    ensures kept { λ r. ⌜ now (counters .exit) ≡ now (counters .entry) ⌝ }
+{
+    if table.len() <= 64 {
+        let mut few = [0u16; 32];
+        let n = octets::read_positions(table, &mut few);
+        return c_sized::decode_sized(
+            others,
+            q,
+            k,
+            b,
+            &few[..n],
+            page,
+            thresholds,
+            counters,
+            result,
+            syndrome,
+            difference,
+            margins,
+            counts,
+        );
+    }
+    let mut positions = [0u16; 256];
+    let n = octets::read_positions(table, &mut positions);
+    c_sized::decode_sized(
+        others,
+        q,
+        k,
+        b,
+        &positions[..n],
+        page,
+        thresholds,
+        counters,
+        result,
+        syndrome,
+        difference,
+        margins,
+        counts,
+    )
+}
