@@ -1,8 +1,9 @@
 /* boundary.c - what the reference pages cannot hold: null pointers, the length of the counts, names in the header, the
  * reading of a margin, every length of a table with every b, unaligned memory, which passes of a list are run on the
  * page of case 7 and on clean ones, passes made one by one on the buffers of an opened page, refused ones between them,
- * symbols of such a page explained, each pass against the grounds of the symbols that it came to first, and the promise
- * that data comes back from a page with few enough symbols replaced. */
+ * symbols of such a page explained, each pass against the grounds of the symbols that it came to first, every place of
+ * the counters and many lengths, decodes with counters against the same without, and the promise that data comes back
+ * from a page with few enough symbols replaced. */
 #include "qmtd.h"
 
 #include <stdio.h>
@@ -34,7 +35,11 @@ static uint8_t data[K], page[QMTD_PAGE_LEN(K, 1)], thresholds[2];
 static uint8_t result[K], syndrome[K], difference[K], margins[QMTD_MARGINS_LEN(K, 1)], counts[QMTD_COUNTS_LEN];
 static uint8_t changes[QMTD_CHANGES_LEN], answer[QMTD_ANSWER_LEN];
 
-/* Data and page all 0, thresholds 0, 0; every lent answer full of 0xEE. */
+/* The counters lie between guard bytes. */
+enum { GUARD_LEN = 64 };
+static uint8_t guarded[QMTD_COUNTERS_LEN + 2 * GUARD_LEN], *const counters = guarded + GUARD_LEN;
+
+/* Data, page and counters all 0, thresholds 0, 0; every lent answer, and what is around the counters, full of 0xEE. */
 static void prepare(void)
 {
     memset(data, 0, sizeof data);
@@ -47,6 +52,8 @@ static void prepare(void)
     memset(counts, 0xEE, sizeof counts);
     memset(changes, 0xEE, sizeof changes);
     memset(answer, 0xEE, sizeof answer);
+    memset(guarded, 0xEE, sizeof guarded);
+    memset(counters, 0, QMTD_COUNTERS_LEN);
 }
 
 static int all(const uint8_t *bytes, size_t len, uint8_t value)
@@ -55,6 +62,13 @@ static int all(const uint8_t *bytes, size_t len, uint8_t value)
         if (bytes[i] != value)
             return 0;
     return 1;
+}
+
+/* Are the counters all 0, and what is around them as it was? */
+static int counters_zero(void)
+{
+    return all(counters, QMTD_COUNTERS_LEN, 0) && all(guarded, GUARD_LEN, 0xEE) &&
+           all(counters + QMTD_COUNTERS_LEN, GUARD_LEN, 0xEE);
 }
 
 static int answers_untouched(void)
@@ -72,6 +86,15 @@ static uint32_t decode(const uint8_t *table, size_t table_len, size_t page_len,
     return qmtd_decode(5, K, 1, table, table_len, page, page_len, list, list_len, result, sizeof result,
                        syndrome, sizeof syndrome, difference, sizeof difference, margins, sizeof margins,
                        counts, counts_len);
+}
+
+/* The same with counters. */
+static uint32_t decode_counters(const uint8_t *table, size_t table_len, size_t page_len, const uint8_t *list,
+                                size_t list_len, uint8_t *lent, size_t lent_len, size_t counts_len)
+{
+    return qmtd_decode_counters(5, K, 1, table, table_len, page, page_len, list, list_len, result, sizeof result,
+                                syndrome, sizeof syndrome, difference, sizeof difference, margins, sizeof margins,
+                                lent, lent_len, counts, counts_len);
 }
 
 static uint32_t number_at(const uint8_t *bytes)
@@ -176,6 +199,40 @@ static void null_in_explain(void)
     EXPECT(answers_untouched() && all(page, sizeof page, 0));
 }
 
+static void null_in_decode_counters(void)
+{
+    const uint8_t *t = table_a;
+    const size_t n = sizeof table_a;
+    prepare();
+
+    EXPECT(qmtd_decode_counters(5, K, 1, NULL, 0, page, 2 * K, thresholds, 2, result, K, syndrome, K, difference, K,
+                                margins, 4 * K, counters, 256, counts, 16) == QMTD_BAD_J);
+    EXPECT(qmtd_decode_counters(5, K, 1, t, n, NULL, 0, thresholds, 2, result, K, syndrome, K, difference, K,
+                                margins, 4 * K, counters, 256, counts, 16) == QMTD_BAD_LENGTH);
+    EXPECT(qmtd_decode_counters(5, K, 1, t, n, page, 2 * K, NULL, 0, result, K, syndrome, K, difference, K,
+                                margins, 4 * K, counters, 256, counts, 16) == QMTD_BAD_THRESHOLD_COUNT);
+    EXPECT(qmtd_decode_counters(5, K, 1, t, n, page, 2 * K, thresholds, 2, NULL, 0, syndrome, K, difference, K,
+                                margins, 4 * K, counters, 256, counts, 16) == QMTD_BAD_LENGTH);
+    EXPECT(qmtd_decode_counters(5, K, 1, t, n, page, 2 * K, thresholds, 2, result, K, NULL, 0, difference, K,
+                                margins, 4 * K, counters, 256, counts, 16) == QMTD_BAD_LENGTH);
+    EXPECT(qmtd_decode_counters(5, K, 1, t, n, page, 2 * K, thresholds, 2, result, K, syndrome, K, NULL, 0,
+                                margins, 4 * K, counters, 256, counts, 16) == QMTD_BAD_LENGTH);
+    EXPECT(qmtd_decode_counters(5, K, 1, t, n, page, 2 * K, thresholds, 2, result, K, syndrome, K, difference, K,
+                                NULL, 0, counters, 256, counts, 16) == QMTD_BAD_LENGTH);
+    EXPECT(qmtd_decode_counters(5, K, 1, t, n, page, 2 * K, thresholds, 2, result, K, syndrome, K, difference, K,
+                                margins, 4 * K, NULL, 0, counts, 16) == QMTD_BAD_LENGTH);
+    EXPECT(qmtd_decode_counters(5, K, 1, t, n, page, 2 * K, thresholds, 2, result, K, syndrome, K, difference, K,
+                                margins, 4 * K, counters, 256, NULL, 0) == QMTD_BAD_LENGTH);
+    EXPECT(qmtd_decode_counters(5, K, 1, t, n, NULL, 0, NULL, 0, NULL, 0, NULL, 0, NULL, 0, NULL, 0, NULL, 0,
+                                NULL, 0) == QMTD_BAD_LENGTH);
+    EXPECT(qmtd_decode_counters(5, 0, 1, t, n, NULL, 0, NULL, 0, NULL, 0, NULL, 0, NULL, 0, NULL, 0, NULL, 0,
+                                NULL, 0) == QMTD_BAD_K);
+    EXPECT(qmtd_decode_counters(0, 0, 1, NULL, 0, NULL, 0, NULL, 0, NULL, 0, NULL, 0, NULL, 0, NULL, 0, NULL, 0,
+                                NULL, 0) == QMTD_BAD_Q);
+
+    EXPECT(answers_untouched() && counters_zero() && all(page, sizeof page, 0));
+}
+
 /* The counts are a lent buffer like the others: 6, after 1 to 5 and before 7 to 9. */
 static void counts_length(void)
 {
@@ -208,6 +265,53 @@ static void counts_length(void)
     EXPECT(answers_untouched());
 }
 
+/* 6 unless there are 256 counters and all are 0: after 1 to 5 and 10, before 7 to 9. What they hold stays. */
+static void counters_lent(void)
+{
+    static const uint8_t not_orthogonal[] = {0, 0, 1, 0, 2, 0}, bad[] = {33}, values[] = {1, 128, 255};
+    static uint8_t zeros[2 * QMTD_COUNTERS_LEN + 1];
+    const size_t n = sizeof table_a;
+    prepare();
+
+    for (size_t len = 0; len <= sizeof zeros; len++)
+        if (len != QMTD_COUNTERS_LEN)
+            EXPECT(decode_counters(table_a, n, sizeof page, thresholds, 2, zeros, len, 16) == QMTD_BAD_LENGTH);
+    EXPECT(answers_untouched() && all(zeros, sizeof zeros, 0));
+
+    for (size_t place = 0; place < QMTD_COUNTERS_LEN; place++)
+        for (size_t i = 0; i < sizeof values; i++) {
+            counters[place] = values[i];
+            EXPECT(decode_counters(table_a, n, sizeof page, thresholds, 2, counters, 256, 16) == QMTD_BAD_LENGTH);
+            EXPECT(counters[place] == values[i]);
+            counters[place] = 0;
+            EXPECT(counters_zero());
+        }
+    EXPECT(answers_untouched());
+
+    /* Counters as they must be, then not, with something else amiss. */
+    for (int amiss = 0; amiss < 2; amiss++) {
+        counters[255] = (uint8_t)amiss;
+        EXPECT(decode_counters(table_a, 7, sizeof page, bad, 1, counters, 256, 16) == QMTD_BAD_J);
+        EXPECT(decode_counters(not_orthogonal, sizeof not_orthogonal, sizeof page, bad, 1, counters, 256, 16) ==
+               QMTD_NOT_SELF_ORTHOGONAL);
+        EXPECT(decode_counters(table_a, n, sizeof page, bad, 1, counters, 256, 15) == QMTD_BAD_LENGTH);
+        EXPECT(decode_counters(table_a, n, sizeof page - 1, bad, 1, counters, 256, 16) == QMTD_BAD_LENGTH);
+        EXPECT(decode_counters(table_a, n, sizeof page, bad, 1, counters, 256, 16) ==
+               (amiss ? QMTD_BAD_LENGTH : QMTD_BAD_THRESHOLD));
+        EXPECT(decode_counters(table_a, n, sizeof page, bad, 0, counters, 256, 16) ==
+               (amiss ? QMTD_BAD_LENGTH : QMTD_BAD_THRESHOLD_COUNT));
+        page[3] = 5;
+        EXPECT(decode_counters(table_a, n, sizeof page, bad, 0, counters, 256, 16) ==
+               (amiss ? QMTD_BAD_LENGTH : QMTD_BAD_SYMBOL));
+        page[3] = 0;
+        EXPECT(counters[255] == amiss && answers_untouched());
+    }
+    counters[255] = 0;
+    EXPECT(decode_counters(table_a, n, sizeof page, thresholds, 2, counters, 256, 16) == QMTD_OK);
+    EXPECT(counters_zero() && all(result, K, 0) && number_at(counts) == 1);
+    EXPECT(QMTD_COUNTERS_LEN == 256);
+}
+
 static void odd_table(void)
 {
     static const uint8_t long_table[67] = {0};
@@ -220,6 +324,7 @@ static void odd_table(void)
     EXPECT(qmtd_check_table(5, QMTD_MAX_K + 1, 1, table_a, 7) == QMTD_BAD_K);
     EXPECT(qmtd_encode(5, K, 1, table_a, 7, data, 0, page, 0) == QMTD_BAD_J);
     EXPECT(qmtd_syndrome(5, K, 1, table_a, 7, page, 0, syndrome, 0) == QMTD_BAD_J);
+    EXPECT(decode_counters(table_a, 7, 0, thresholds, 0, counters, 0, 0) == QMTD_BAD_J);
     EXPECT(qmtd_open(5, K, 1, table_a, 7, page, 0, result, 0, syndrome, 0, difference, 0) == QMTD_BAD_J);
     EXPECT(qmtd_pass(5, K, 1, table_a, 7, 33, result, 0, syndrome, 0, difference, 0, changes, 0) == QMTD_BAD_J);
     EXPECT(qmtd_explain(5, K, 1, table_a, 7, 33, K, result, 0, syndrome, 0, difference, 0, answer, 0) == QMTD_BAD_J);
@@ -276,8 +381,8 @@ static void margin_bytes(void)
     EXPECT(QMTD_MARGIN_LEN == 4 && sizeof bytes == QMTD_MARGINS_LEN(sizeof numbers / sizeof numbers[0], 1));
 }
 
-/* Case 9 of document 01, decoded, explained and by one pass, with every piece at every distance from an aligned
- * address. */
+/* Case 9 of document 01, decoded without counters and with them, explained and by one pass, with every piece at every
+ * distance from an aligned address. */
 static void unaligned(void)
 {
     static const uint8_t case_9_counts[QMTD_COUNTS_LEN] = {2, 0, 0, 0, 2, 0, 0, 0, 7, 0, 0, 0, 2, 0, 0, 0};
@@ -285,8 +390,8 @@ static void unaligned(void)
     enum { ROOM = 80 };
     static union {
         uint64_t alignment;
-        uint8_t bytes[8][ROOM];
-    } memory;
+        uint8_t bytes[8][ROOM], counters[QMTD_COUNTERS_LEN + 16];
+    } memory, lent;
     for (size_t shift = 0; shift < 16; shift++) {
         uint8_t *at[8];
         memset(memory.bytes, 0, sizeof memory.bytes);
@@ -295,14 +400,24 @@ static void unaligned(void)
         memcpy(at[0], table_a, sizeof table_a);
         at[1][0] = 7;
         at[1][1] = 3;
-        EXPECT(qmtd_decode(256, K, 1, at[0], sizeof table_a, at[1], 2 * K, at[2], 2, at[3], K, at[4], K, at[5], K,
-                           at[6], QMTD_MARGINS_LEN(K, 1), at[7], QMTD_COUNTS_LEN) == QMTD_OK);
-        EXPECT(all(at[3], K, 0) && all(at[4], K, 0));
-        EXPECT(at[5][0] == 249 && at[5][1] == 253 && all(at[5] + 2, K - 2, 0));
-        /* d(0) and d(1) are all that is not 0. */
-        for (size_t j = 0; j < K; j++)
-            EXPECT(qmtd_margin(at[6], j) == (j < 2 ? J - 1 : J + 1));
-        EXPECT(memcmp(at[7], case_9_counts, sizeof case_9_counts) == 0);
+        for (int counted = 0; counted < 2; counted++) {
+            for (size_t i = 3; i < 8; i++)
+                memset(memory.bytes[i], 0xEE, ROOM);
+            uint32_t number = counted ? qmtd_decode_counters(256, K, 1, at[0], sizeof table_a, at[1], 2 * K, at[2], 2,
+                                                             at[3], K, at[4], K, at[5], K, at[6],
+                                                             QMTD_MARGINS_LEN(K, 1), lent.counters + shift,
+                                                             QMTD_COUNTERS_LEN, at[7], QMTD_COUNTS_LEN)
+                                      : qmtd_decode(256, K, 1, at[0], sizeof table_a, at[1], 2 * K, at[2], 2, at[3], K,
+                                                    at[4], K, at[5], K, at[6], QMTD_MARGINS_LEN(K, 1), at[7],
+                                                    QMTD_COUNTS_LEN);
+            EXPECT(number == QMTD_OK && all(at[3], K, 0) && all(at[4], K, 0));
+            EXPECT(at[5][0] == 249 && at[5][1] == 253 && all(at[5] + 2, K - 2, 0));
+            /* d(0) and d(1) are all that is not 0. */
+            for (size_t j = 0; j < K; j++)
+                EXPECT(qmtd_margin(at[6], j) == (j < 2 ? J - 1 : J + 1));
+            EXPECT(memcmp(at[7], case_9_counts, sizeof case_9_counts) == 0);
+            EXPECT(all(lent.counters, sizeof lent.counters, 0));
+        }
 
         EXPECT(qmtd_open(256, K, 1, at[0], sizeof table_a, at[1], 2 * K, at[3], K, at[4], K, at[5], K) == QMTD_OK);
         EXPECT(memcmp(at[3], at[1], K) == 0 && all(at[5], K, 0));
@@ -548,8 +663,38 @@ static void refused_pass(uint32_t q, uint32_t k, uint32_t b, const uint8_t *tabl
 
 /* What a decode handed back. */
 struct decoded {
-    const uint8_t *result, *syndrome, *difference, *counts;
+    const uint8_t *result, *syndrome, *difference, *margins, *counts;
 };
+
+/* The page decoded with counters: all is as it is without them. Refused by one counter that is not 0, it leaves every
+ * byte. */
+static void counted_as(uint32_t q, uint32_t k, uint32_t b, const uint8_t *table, uint32_t table_len,
+                       const uint8_t *received, const uint8_t *list, uint32_t list_len, struct decoded decoded)
+{
+    static uint8_t back[QMTD_MAX_DATA], s[QMTD_MAX_K], d[QMTD_MAX_DATA], m[QMTD_MARGINS_LEN(QMTD_MAX_DATA, 1)];
+    const uint32_t n = QMTD_DATA_LEN(k, b), margins_len = QMTD_MARGINS_LEN(k, b), place = below(QMTD_COUNTERS_LEN);
+    uint8_t c[QMTD_COUNTS_LEN];
+    for (int amiss = 1; amiss >= 0; amiss--) {
+        memset(back, 0xEE, n);
+        memset(s, 0xEE, k);
+        memset(d, 0xEE, n);
+        memset(m, 0xEE, margins_len);
+        memset(c, 0xEE, sizeof c);
+        counters[place] = (uint8_t)(amiss ? 1 + below(255) : 0);
+        uint8_t held = counters[place];
+        uint32_t number = qmtd_decode_counters(q, k, b, table, table_len, received, QMTD_PAGE_LEN(k, b), list, list_len,
+                                               back, n, s, k, d, n, m, margins_len, counters, QMTD_COUNTERS_LEN,
+                                               c, sizeof c);
+        EXPECT(number == (amiss ? QMTD_BAD_LENGTH : QMTD_OK) && counters[place] == held);
+        if (amiss)
+            EXPECT(all(back, n, 0xEE) && all(s, k, 0xEE) && all(d, n, 0xEE) && all(m, margins_len, 0xEE) &&
+                   all(c, sizeof c, 0xEE));
+    }
+    EXPECT(counters_zero());
+    EXPECT(memcmp(back, decoded.result, n) == 0 && memcmp(s, decoded.syndrome, k) == 0 &&
+           memcmp(d, decoded.difference, n) == 0 && memcmp(m, decoded.margins, margins_len) == 0 &&
+           memcmp(c, decoded.counts, sizeof c) == 0);
+}
 
 /* The page opened, and the passes that decode runs with this list made one by one, refused ones between them: they
  * leave decode's result, syndrome and difference, and are as many with as many changes. */
@@ -589,9 +734,9 @@ static void passes_on_any(uint32_t q, uint32_t k, uint32_t b, const uint8_t *tab
 }
 
 /* At most t of a page's symbols replaced, 2 * t + (smallest threshold) <= J: decode gives the data back, wherever the
- * smallest stands in the list and whatever the others are, and so do its passes made one by one. The distance at the
- * end is that of the page encoded from the result, and the margins are those of the syndrome and the difference handed
- * back. */
+ * smallest stands in the list and whatever the others are, and so do its passes made one by one, and decode with
+ * counters. The distance at the end is that of the page encoded from the result, and the margins are those of the
+ * syndrome and the difference handed back. */
 static void recovery_of(uint32_t q, uint32_t k, uint32_t b, const uint8_t *table, uint32_t j, int rounds)
 {
     static uint8_t sent[QMTD_MAX_DATA], back[QMTD_MAX_DATA], s[QMTD_MAX_K], d[QMTD_MAX_DATA];
@@ -629,7 +774,9 @@ static void recovery_of(uint32_t q, uint32_t k, uint32_t b, const uint8_t *table
             EXPECT(qmtd_margin(m, i) == margin_of(k, table, j, s, d, i));
         }
         EXPECT(nonzero(s, k) + nonzero(d, n) == replaced);
-        passes_of(q, k, b, table, table_len, received, list, list_len, (struct decoded){back, s, d, c});
+        const struct decoded decoded = {back, s, d, m, c};
+        passes_of(q, k, b, table, table_len, received, list, list_len, decoded);
+        counted_as(q, k, b, table, table_len, received, list, list_len, decoded);
     }
     passes_on_any(q, k, b, table, j);
 }
@@ -687,6 +834,11 @@ static void branches(void)
                            margins, sizeof margins, counts, sizeof counts) == QMTD_BAD_BRANCHES);
         EXPECT(qmtd_decode(5, K, b, NULL, 0, NULL, 0, NULL, 0, NULL, 0, NULL, 0, NULL, 0, NULL, 0, NULL, 0) ==
                QMTD_BAD_BRANCHES);
+        EXPECT(qmtd_decode_counters(5, K, b, table_a, n, page, sizeof page, thresholds, 2, result, K, syndrome, K,
+                                    difference, K, margins, sizeof margins, counters, 255, counts, sizeof counts) ==
+               QMTD_BAD_BRANCHES);
+        EXPECT(qmtd_decode_counters(5, K, b, NULL, 0, NULL, 0, NULL, 0, NULL, 0, NULL, 0, NULL, 0, NULL, 0, NULL, 0,
+                                    NULL, 0) == QMTD_BAD_BRANCHES);
         EXPECT(qmtd_open(5, K, b, table_a, n, page, sizeof page, result, K, syndrome, K, difference, K) ==
                QMTD_BAD_BRANCHES);
         EXPECT(qmtd_open(5, K, b, NULL, 0, NULL, 0, NULL, 0, NULL, 0, NULL, 0) == QMTD_BAD_BRANCHES);
@@ -697,7 +849,7 @@ static void branches(void)
                QMTD_BAD_BRANCHES);
         EXPECT(qmtd_explain(5, K, b, NULL, 0, 33, K, NULL, 0, NULL, 0, NULL, 0, NULL, 0) == QMTD_BAD_BRANCHES);
     }
-    EXPECT(answers_untouched() && all(page, sizeof page, 0));
+    EXPECT(answers_untouched() && counters_zero() && all(page, sizeof page, 0));
 
     /* b * k at its limit, and above; one position in each run. */
     for (uint32_t b = QMTD_MIN_B; b <= QMTD_MAX_B; b++) {
@@ -725,7 +877,9 @@ int main(void)
     null_with_length_0();
     null_in_open_and_pass();
     null_in_explain();
+    null_in_decode_counters();
     counts_length();
+    counters_lent();
     odd_table();
     names();
     margin_bytes();

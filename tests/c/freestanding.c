@@ -39,7 +39,7 @@ static const uint8_t expected_changes[QMTD_CHANGES_LEN] = {2};
 static const uint8_t expected_answer[QMTD_ANSWER_LEN] = {[0] = QMTD_GROUND_CHANGE, [4] = 7, [8] = 3, [12] = 1, [16] = 26};
 
 static uint8_t page[2 * K], result[K], syndrome[K], difference[K], margins[4 * K], counts[QMTD_COUNTS_LEN];
-static uint8_t changes[QMTD_CHANGES_LEN], answer[QMTD_ANSWER_LEN];
+static uint8_t changes[QMTD_CHANGES_LEN], answer[QMTD_ANSWER_LEN], counters[QMTD_COUNTERS_LEN];
 
 static int same(const uint8_t *a, const uint8_t *b, size_t len)
 {
@@ -55,6 +55,13 @@ static uint32_t decode(uint32_t q)
                        result, K, syndrome, K, difference, K, margins, sizeof margins, counts, sizeof counts);
 }
 
+static uint32_t decode_counters(void)
+{
+    return qmtd_decode_counters(256, K, 1, table, sizeof table, received, sizeof received,
+                                thresholds, sizeof thresholds, result, K, syndrome, K, difference, K,
+                                margins, sizeof margins, counters, sizeof counters, counts, sizeof counts);
+}
+
 static uint32_t pass(uint32_t threshold)
 {
     return qmtd_pass(256, K, 1, table, sizeof table, threshold, result, K, syndrome, K, difference, K,
@@ -67,20 +74,22 @@ static uint32_t explain(uint32_t symbol)
                         answer, sizeof answer);
 }
 
-/* Nothing but d(0) and d(1) is left that is not 0. */
-static int margins_right(void)
+static const uint8_t zeros[QMTD_COUNTERS_LEN];
+
+/* The answers of the decode: nothing but d(0) and d(1) is left that is not 0. */
+static int decoded(void)
 {
     for (int j = 0; j < K; j++)
         if (qmtd_margin(margins, (uint64_t)j) != (j < 2 ? 3 : 5))
             return 0;
-    return 1;
+    return same(result, zeros, K) && same(syndrome, zeros, K) && same(difference, expected_difference, K) &&
+           same(counts, expected_counts, sizeof counts);
 }
 
 int run(void);
 
 int run(void)
 {
-    static const uint8_t zeros[K];
     if (qmtd_version() != QMTD_VERSION_NUMBER)
         return 1;
     if (qmtd_check_table(256, K, 1, table, sizeof table) != QMTD_OK ||
@@ -92,12 +101,12 @@ int run(void)
     if (qmtd_syndrome(256, K, 1, table, sizeof table, page, sizeof page, syndrome, K) != QMTD_OK ||
         !same(syndrome, zeros, K))
         return 4;
-    if (decode(256) != QMTD_OK)
+    if (decode(256) != QMTD_OK || !decoded())
         return 5;
-    if (!same(result, zeros, K) || !same(syndrome, zeros, K) || !same(difference, expected_difference, K) ||
-        !margins_right() || !same(counts, expected_counts, sizeof counts))
+    if (decode(257) != QMTD_BAD_Q || !decoded())
         return 6;
-    if (decode(257) != QMTD_BAD_Q || !margins_right() || !same(counts, expected_counts, sizeof counts))
+    margins[0] = counts[0] = 0xEE;
+    if (decode_counters() != QMTD_OK || !decoded() || !same(counters, zeros, sizeof counters))
         return 7;
     if (qmtd_open(256, K, 1, table, sizeof table, received, sizeof received, result, K, syndrome, K, difference, K) !=
             QMTD_OK ||
@@ -112,5 +121,8 @@ int run(void)
     if (pass(33) != QMTD_BAD_THRESHOLD || !same(difference, expected_difference, K) ||
         !same(changes, expected_changes, sizeof changes))
         return 11;
+    counters[255] = 1;
+    if (decode_counters() != QMTD_BAD_LENGTH || !decoded() || counters[255] != 1)
+        return 12;
     return 0;
 }

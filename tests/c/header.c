@@ -10,6 +10,8 @@ typedef uint32_t check_table_call(uint32_t, uint32_t, uint32_t, READ);
 typedef uint32_t encode_call(uint32_t, uint32_t, uint32_t, READ, READ, LENT);
 typedef uint32_t syndrome_call(uint32_t, uint32_t, uint32_t, READ, READ, LENT);
 typedef uint32_t decode_call(uint32_t, uint32_t, uint32_t, READ, READ, READ, LENT, LENT, LENT, LENT, LENT);
+typedef uint32_t decode_counters_call(uint32_t, uint32_t, uint32_t, READ, READ, READ, LENT, LENT, LENT, LENT, LENT,
+                                      LENT);
 typedef uint32_t open_call(uint32_t, uint32_t, uint32_t, READ, READ, LENT, LENT, LENT);
 typedef uint32_t pass_call(uint32_t, uint32_t, uint32_t, READ, uint32_t, LENT, LENT, LENT, LENT);
 typedef uint32_t explain_call(uint32_t, uint32_t, uint32_t, READ, uint32_t, uint32_t, READ, READ, READ, LENT);
@@ -21,6 +23,7 @@ extern const struct calls {
     encode_call *encode;
     syndrome_call *syndrome;
     decode_call *decode;
+    decode_counters_call *decode_counters;
     open_call *open;
     pass_call *pass;
     explain_call *explain;
@@ -28,4 +31,4 @@ extern const struct calls {
 } calls;
 
 const struct calls calls = {qmtd_version, qmtd_check_table, qmtd_encode, qmtd_syndrome, qmtd_decode,
-                            qmtd_open, qmtd_pass, qmtd_explain, qmtd_margin};
+                            qmtd_decode_counters, qmtd_open, qmtd_pass, qmtd_explain, qmtd_margin};

@@ -4,7 +4,7 @@
  * Each page runs twice: with guard bytes on both sides of every piece of lent memory, and with none, each piece a heap
  * block of exactly its length (null where that is 0), so that valgrind or a sanitizer sees any access outside.
  * Memory whose content the page does not give holds another pattern each time: no written byte can pass for an unwritten
- * one in both. */
+ * one in both. The pages of decode run twice more with counters, which must change nothing. */
 #include "qmtd.h"
 
 #include <stdio.h>
@@ -59,6 +59,12 @@ static uint32_t explain(const uint32_t *n, const struct piece *p)
     return qmtd_explain(n[0], n[1], n[2], LENT(p[0]), n[3], n[4], LENT(p[1]), LENT(p[2]), LENT(p[3]), LENT(p[4]));
 }
 
+static uint32_t decode_counters(const uint32_t *n, const struct piece *p)
+{
+    return qmtd_decode_counters(n[0], n[1], n[2], LENT(p[0]), LENT(p[1]), LENT(p[2]), LENT(p[3]), LENT(p[4]),
+                                LENT(p[5]), LENT(p[6]), LENT(p[7]), LENT(p[8]));
+}
+
 /* The calls by their number in the file: name, how many numbers each takes, the names of its pieces, the call itself.
  * Number 0 is no call: it opens a group, whose name is the piece. */
 static const struct call {
@@ -75,8 +81,10 @@ static const struct call {
     {"open", 3, {"table", "page", "result", "syndrome", "difference"}, open_page},
     {"pass", 4, {"table", "result", "syndrome", "difference", "changes"}, pass},
     {"explain", 5, {"table", "result", "syndrome", "difference", "answer"}, explain},
+    {"decode_counters", 3, {"table", "page", "thresholds", "result", "syndrome", "difference", "margins", "counters",
+                            "counts"}, decode_counters},
 };
-enum { OPEN_GROUP, CALLS = sizeof calls / sizeof calls[0] };
+enum { OPEN_GROUP = 0, DECODE = 4, DECODE_COUNTERS = 8, CALLS = sizeof calls / sizeof calls[0] };
 
 struct record {
     const struct call *call;
@@ -219,13 +227,36 @@ static void close_group(const struct group *group, struct group *all)
     all->wrong += group->wrong;
 }
 
-static void run_page(struct group *group, struct record *record)
+/* Runs the record in both ways. Was all as expected? */
+static int run_twice(const struct group *group, struct record *record)
 {
     char where[128];
     snprintf(where, sizeof where, "%s, page %lu, %s", group->name, group->pages, record->call->name);
     int guarded = run_once(record, where, 0, GUARD_LEN);
     int exact = run_once(record, where, 1, 0);
-    group->wrong += !(guarded && exact);
+    return guarded && exact;
+}
+
+/* The record of a decode as one with counters, which are all 0 and stand before the counts, its last piece. */
+static struct record with_counters(const struct record *decode)
+{
+    static const uint8_t zeros[QMTD_COUNTERS_LEN];
+    struct record record = *decode;
+    record.call = &calls[DECODE_COUNTERS];
+    record.pieces[record.piece_count] = record.pieces[record.piece_count - 1];
+    record.pieces[record.piece_count - 1] = (struct piece){.len = sizeof zeros, .before = zeros};
+    record.piece_count++;
+    return record;
+}
+
+static void run_page(struct group *group, struct record *record)
+{
+    int right = run_twice(group, record);
+    if (record->call == &calls[DECODE]) {
+        struct record counted = with_counters(record);
+        right &= run_twice(group, &counted);
+    }
+    group->wrong += !right;
     group->run++;
 }
 

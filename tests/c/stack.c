@@ -1,4 +1,4 @@
-/* stack.c - the stack that the calls use, against the 8 KiB that the header tells a caller to allow. Each call runs on
+/* stack.c - the stack that the calls use, against the 9 KiB that the header tells a caller to allow. Each call runs on
  * a stack of its own, filled with a pattern before; what no longer holds the pattern was used. */
 #define _DEFAULT_SOURCE
 #include "qmtd.h"
@@ -6,7 +6,7 @@
 #include <stdio.h>
 #include <string.h>
 
-enum { K = QMTD_MAX_K, N = QMTD_MAX_DATA, PAIRS_K = N / QMTD_MAX_B, STACK = 65536, FILL = 0xA7, ALLOWED = 8192 };
+enum { K = QMTD_MAX_K, N = QMTD_MAX_DATA, PAIRS_K = N / QMTD_MAX_B, STACK = 65536, FILL = 0xA7, ALLOWED = 9216 };
 
 /* One branch: a Golomb ruler of 10 marks. Eight branches: two positions each. */
 static const uint8_t ruler[] = {0, 0, 1, 0, 6, 0, 10, 0, 23, 0, 26, 0, 34, 0, 41, 0, 53, 0, 55, 0};
@@ -24,7 +24,7 @@ static const struct code {
 
 static uint8_t data[N], page[QMTD_MAX_PAGE_LEN], result[N], syndrome[K], difference[N];
 static uint8_t margins[QMTD_MARGINS_LEN(N, 1)], counts[QMTD_COUNTS_LEN], changes[QMTD_CHANGES_LEN];
-static uint8_t answer[QMTD_ANSWER_LEN];
+static uint8_t answer[QMTD_ANSWER_LEN], counters[QMTD_COUNTERS_LEN];
 static uint8_t stack[STACK] __attribute__((aligned(16)));
 static uint32_t number;
 
@@ -49,6 +49,13 @@ static void decode(void)
 {
     number = qmtd_decode(CODE, page, N + code->k, thresholds, sizeof thresholds, result, N, syndrome, code->k,
                          difference, N, margins, sizeof margins, counts, sizeof counts);
+}
+
+static void decode_counters(void)
+{
+    number = qmtd_decode_counters(CODE, page, N + code->k, thresholds, sizeof thresholds, result, N, syndrome, code->k,
+                                  difference, N, margins, sizeof margins, counters, sizeof counters,
+                                  counts, sizeof counts);
 }
 
 static void open_page(void)
@@ -120,7 +127,8 @@ int main(void)
         const char *name;
         void (*call)(void);
     } calls[] = {{"check_table", check_table}, {"encode", encode}, {"syndrome", work_out_syndrome},
-                 {"decode", decode}, {"open", open_page}, {"pass", pass}, {"explain", explain}};
+                 {"decode", decode}, {"decode_counters", decode_counters}, {"open", open_page}, {"pass", pass},
+                 {"explain", explain}};
     int wrong = 0;
     size_t around = used_by(idle);
     for (size_t i = 0; i < N; i++)
@@ -129,7 +137,7 @@ int main(void)
         for (size_t i = 0; i < sizeof calls / sizeof calls[0]; i++) {
             code = &codes[c];
             size_t used = used_by(calls[i].call) - around;
-            printf("%s, %-12s %lu bytes of stack\n", code->name, calls[i].name, (unsigned long)used);
+            printf("%s, %-15s %lu bytes of stack\n", code->name, calls[i].name, (unsigned long)used);
             wrong |= number != QMTD_OK || used > ALLOWED;
             if (calls[i].call == encode)
                 for (size_t at = 0; at < N + code->k; at += 100)
