@@ -15,7 +15,7 @@ from pathlib import Path
 import reference as ref
 import screen
 from codes import LINES, SINGER, WIDEST, Random, greedy, greedy_runs, positions_for, runs_for, singer
-from records import CHECK_TABLE, DECODE, ENCODE, EXPLAIN, OPEN, PASS, SYNDROME, Pages
+from records import CHECK_TABLE, DECODE, DECODE_COUNTERS, ENCODE, EXPLAIN, OPEN, PASS, SYNDROME, Pages
 
 ROOT = Path(__file__).resolve().parent.parent.parent
 CRATE = ROOT / "crates" / "reference"
@@ -1688,6 +1688,207 @@ def explain_c_only(pages, random):
     for met in [(number,) for number in REFUSALS[EXPLAIN]] + [(7, 9, 11)]:
         _, arguments, _ = spoiled_branches(EXPLAIN, met)
         pages.explain(*arguments, answer_len=23, expect=6 if met[0] in (7, 9, 11) else met[0])
+
+
+# Decode with counters (request N7)
+
+def counters_with(named, length=256):
+    """Counters that are 0 but for those named."""
+    return bytes(ref.symbols(length, named))
+
+
+def counted(pages, random, code, runs, replaced, thresholds):
+    """A page with so many symbols replaced, decoded with counters; inside the bound the data comes back."""
+    q, k, b, _ = code
+    data = random.symbols(q, b * k)
+    page = damaged(random, q, ref.code_word(q, k, runs, data), branch_places(k, b, replaced, random))
+    got = pages.decode_counters(*code, page, thresholds, expect=0)
+    assert got.result == data or 2 * replaced + min(thresholds) > len(runs[0])
+    return got
+
+
+@group("counters, worked pages and threshold lists")
+def counters_worked(pages, random):
+    a = 256, 13, 1, ref.CODE_A
+    for page, thresholds, counts in (
+            (ref.page_a({0: 7}), [2, 2], (2, 1, 4, 1)), (ref.page_a({0: 7}), [3, 2], (2, 1, 4, 1)),
+            (ref.page_a({}, {2: 9}), [0], (1, 0, 1, 1)), (ref.page_a({0: 7, 1: 3}), [0, 0], (2, 2, 7, 2)),
+            (ref.page_a({}, {0: 251, 1: 251, 4: 251}), [0], (1, 1, 3, 2))):
+        assert pages.decode_counters(*a, page, thresholds, expect=0).counts == counts
+    # At distance 0.
+    for q, k, b, j in ((3, 7, 1, 1), (16, 7, 1, 3), (256, 13, 1, 4), (251, 31, 1, 6), (3, 13, 2, 3), (16, 17, 8, 2)):
+        code, runs = some_code(random, q, k, b, j)
+        assert counted(pages, random, code, runs, 0, [3, 3, 2, 0, 0]).counts == (3, 0, 0, 0)
+    # The page of case 7: symbol 0 is changed by the first pass that is run with a threshold below 3.
+    for thresholds in LISTS[::4]:
+        got = pages.decode_counters(*a, ref.page_a({0: 7}), thresholds, expect=0)
+        assert got.counts.changes == (min(thresholds) < 3)
+    # One symbol of a known lead: all passes of a falling list are run, and one of them makes the change.
+    falling = [7, 6, 5, 4, 3, 2, 1, 0]
+    for lead in (1, 7):
+        code, runs = some_code(random, 256, 57, 1, 8)
+        data, page = with_leads(random, 256, 57, runs, [lead])
+        got = pages.decode_counters(*code, page, falling, expect=0)
+        assert got.result == data and got.changes_of_pass == [t == lead - 1 for t in falling]
+
+
+@group("counters, J of 1 to 14")
+def counters_every_j(pages, random):
+    """Damage inside the bound, up to J = 6 also outside it. The decodes without counters have every J, and the C tests
+    run them with counters too."""
+    for j in (*range(1, 13), 14):
+        k = min(k for k, p in SINGER.items() if p + 1 >= j)
+        for q, replaced in (((3, 16, 251, 256)[j % 4], j // 2), ((256, 3, 16, 251)[j % 4], k // 3))[:1 + (j <= 6)]:
+            code, runs = some_code(random, q, k, 1, j)
+            counted(pages, random, code, runs, replaced, [j // 4, 1, 0])
+
+
+@group("counters, b of 1 to 8")
+def counters_every_b(pages, random):
+    """Damage inside the bound and outside it."""
+    for k, b, j in ((13, 1, 4), (13, 2, 3), (21, 3, 3), (27, 4, 3), (17, 5, 2), (13, 6, 2), (15, 7, 2), (17, 8, 2)):
+        for q, replaced in (((3, 16, 251, 256)[b % 4], 1), ((16, 256, 3, 251)[b % 4], k // 3)):
+            code, runs = some_code(random, q, k, b, j)
+            counted(pages, random, code, runs, replaced, [1, 0, 0])
+
+
+def counted_vote(pages, q, s, threshold=0):
+    """A page of code A, data all 0, on which the estimates of symbol 0 are 0 and s."""
+    page = ref.page_a({}, {i: -value % q for i, value in zip((0, 1, 4, 6), s)})
+    return pages.decode_counters(q, 13, 1, ref.CODE_A, page, [threshold], expect=0)
+
+
+@group("counters, votes")
+def counters_votes(pages, random):
+    """Ties in every order of arrival, zeros that lead, and leaders at both ends of the values."""
+    for q, (low, high) in ((256, (1, 2)), (3, (1, 2)), (256, (254, 255)), (251, (127, 250))):
+        for s in sorted(set(itertools.permutations((low, low, high, high))))[::1 if q == 256 else 5]:
+            got = counted_vote(pages, q, s)
+            assert got.counts.changes == 0 and got.margins[0] == -1
+    # A tie with 0, which d says too; all five different.
+    for q, s in ((256, (255, 0, 255, 9)), (256, (9, 255, 0, 255)), (16, (15, 15, 14, 0)), (16, (0, 1, 2, 1))):
+        assert counted_vote(pages, q, s).margins[0] == 0
+    for q, s in ((256, (255, 254, 253, 252)), (256, (1, 2, 3, 4)), (16, (3, 15, 1, 8))):
+        got = counted_vote(pages, q, s)
+        assert got.counts.changes == 0 and got.margins[0] == 0
+    # 0 leads by one vote, by more.
+    for q, s, margin in ((256, (255, 0, 0, 255), 1), (3, (2, 0, 2, 0), 1), (251, (0, 250, 0, 0), 3)):
+        got = counted_vote(pages, q, s)
+        assert got.counts.changes == 0 and got.margins[0] == margin
+    # Another value leads, by one vote or by three.
+    for q, value in ((256, 255), (256, 128), (256, 1), (251, 250), (3, 2)):
+        for s, ahead in (((value, value, 0, value), 1), ((value,) * 4, 3)):
+            assert counted_vote(pages, q, s, ahead - 1).difference[0] == -value % q
+            assert counted_vote(pages, q, s, ahead).difference[0] == 0
+    # Every symbol random: few values, so that many are tied, and as many values as there are.
+    for q, k, j in ((3, 7, 3), (3, 13, 4), (4, 7, 2), (4, 31, 6), (256, 13, 4), (256, 31, 6)):
+        code, _ = some_code(random, q, k, 1, j)
+        pages.decode_counters(*code, random.symbols(q, 2 * k), [1, 0, 0], expect=0)
+
+
+@group("counters, 33 estimates")
+def counters_widest(pages, random):
+    """J = 32. With k = 993 any two data symbols have exactly one check in common."""
+    positions = positions_for(random, 993, 32)
+    code, checks = (256, 993, 1, ref.table_of(positions)), ref.checks_of(993, [positions], 0)
+    # All 33 agree on a value other than 0. 17 data symbols are wrong by 1, all in one check that symbol 0 is not in, so
+    # that each has another check in common with symbol 0. This is visited first and changed. Symbol 1 is next and the
+    # first of those that are wrong; they are all put right, and then all estimates of symbol 0 are 255.
+    check = random.pick([i for i in ref.checks_of(993, [positions], 1) if i not in checks])
+    wrong = [j for j in range(1, 993) if check in ref.checks_of(993, [positions], j)][:17]
+    got = pages.decode_counters(*code, ref.symbols(2 * 993, {j: 1 for j in wrong}), [0, 32], expect=0)
+    assert got.changes_of_pass == [18, 1] and got.result == [0] * 993
+    # All 33 differ: symbol 0 is left, and so is each other symbol, which has one of its checks.
+    s = dict(zip(checks, random.some(range(1, 256), 32)))
+    got = pages.decode_counters(*code, ref.symbols(2 * 993, {993 + i: -value % 256 for i, value in s.items()}), [0],
+                                expect=0)
+    assert got.counts.changes == 0 and got.margins == [0] + [31] * 992
+
+
+@group("counters, codes of one symbol")
+def counters_one_symbol(pages, random):
+    """k = 1: the symbols of all branches have the one check. A symbol's estimates are 0 and S, which is no change."""
+    for b in range(1, 9):
+        for q, checks in ((3, [2]), ((256, 16, 251)[b % 3], None)):
+            page = random.symbols(q, b) + (checks or random.symbols(q, 1))
+            got = pages.decode_counters(q, 1, b, ref.table_of(*[[0]] * b), page, [0], expect=0)
+            assert got.result == page[:b] and got.counts.changes == 0
+    # S is 255, 0.
+    for page, margin in (([0, 1], 0), ([255, 0], 0), ([255, 255], 2)):
+        assert pages.decode_counters(256, 1, 1, ref.table_of([0]), page, [0, 0], expect=0).margins == [margin]
+
+
+@group("counters, other lengths than 256")
+def counters_lengths(pages, random):
+    """On a clean page and on one that decode would change."""
+    page = ref.page_a({0: 3})
+    for length in (0, 1, 2, 5, 128, 254, 255, 257, 258, 512):
+        pages.decode_counters(5, 13, 1, ref.CODE_A, page, [0], counters=bytes(length), expect=6)
+    for q in (3, 251):
+        pages.decode_counters(q, 13, 1, ref.CODE_A, [0] * 26, [0], counters=bytes(q), expect=6)
+    # Not all zero either: also beyond the first 256.
+    for length, place in ((1, 0), (255, 254), (257, 0), (257, 256), (512, 511)):
+        pages.decode_counters(5, 13, 1, ref.CODE_A, page, [0], counters=counters_with({place: 1}, length), expect=6)
+
+
+@group("counters that are not all zero")
+def counters_not_zero(pages, random):
+    """At the ends and on both sides of q, where no estimate comes; sums and differences of the counters that are 0
+    modulo 256 are among them. What they hold stays."""
+    for q, places in ((256, (0, 1, 127, 128, 254, 255)), (251, (0, 250, 251, 255)), (3, (0, 1, 2, 3, 15, 255))):
+        for place in places:
+            page = random.pick((ref.page_a(), ref.page_a({0: 2}), random.symbols(q, 26)))
+            pages.decode_counters(q, 13, 1, ref.CODE_A, page, [0], counters=counters_with({place: 1}), expect=6)
+    for value in (2, 32, 33, 128, 254, 255):
+        pages.decode_counters(5, 13, 1, ref.CODE_A, ref.page_a({0: 3}), [0],
+                              counters=counters_with({random.below(256): value}), expect=6)
+    for named in ({0: 1, 255: 1}, {7: 1, 8: 255}, {0: 128, 1: 128}, {100: 9, 200: 9}, dict.fromkeys(range(128), 2),
+                  dict.fromkeys(range(128, 256), 2), dict.fromkeys(range(256), 1), dict.fromkeys(range(256), 255),
+                  {i: random.below(256) for i in range(256)}):
+        pages.decode_counters(16, 13, 1, ref.CODE_A, ref.page_a({0: 3}), [0], counters=counters_with(named), expect=6)
+    # Codes with more branches, and of one symbol.
+    for q, k, b, j in ((256, 17, 8, 2), (3, 13, 2, 3), (256, 1, 1, 1)):
+        code, _ = some_code(random, q, k, b, j)
+        pages.decode_counters(*code, random.symbols(q, (b + 1) * k), [1, 0], counters=counters_with({3: 1}), expect=6)
+
+
+@group("counters, with other refusals")
+def counters_refused(pages, random):
+    """Counters that are amiss are refused by 6: after 1 to 5 and 10, before 7, 8 and 9."""
+    others = [number for number in ORDER if number != 6]
+    for met in [(number,) for number in others] + [(7, 8, 9), tuple(others)]:
+        _, arguments, lengths = spoiled_branches(DECODE_COUNTERS, met)
+        for counters in (bytes(random.pick((0, 255, 257))), counters_with({random.pick((0, 128, 255)): 1})):
+            pages.decode_counters(*arguments, **lengths, counters=counters,
+                                  expect=6 if met[0] in (7, 8, 9) else met[0])
+    for number in (7, 8, 9):
+        _, arguments = spoiled(DECODE, (number,))
+        for counters in (b"", bytes(1), bytes(257), counters_with({255: 1}), counters_with({0: 1, 127: 255, 128: 1})):
+            pages.decode_counters(*arguments, counters=counters, expect=6)
+    # The same and pairs of them with counters as they must be.
+    for met in [(number,) for number in others] + [(7, 8), (7, 9), (8, 9)]:
+        _, arguments, lengths = spoiled_branches(DECODE_COUNTERS, met)
+        pages.decode_counters(*arguments, **lengths, expect=met[0])
+    # 6 by another buffer, with counters as they must be and not.
+    right = ref.decode_lengths(13, 1)
+    for at, more in itertools.product(range(4), (-4, 4)):
+        pages.decode_counters(5, 13, 1, ref.CODE_A, [0] * 26, [0], expect=6,
+                              lengths=right[:at] + (right[at] + more,) + right[at + 1:])
+    for length, counters in ((25, ref.ZEROED), (27, ref.ZEROED), (25, bytes(255)), (27, counters_with({9: 9}))):
+        pages.decode_counters(5, 13, 1, ref.CODE_A, [0] * length, [0], counters=counters, expect=6)
+
+
+@group("counters in C alone", c_only=True)
+def counters_c_only(pages, random):
+    """Tables of an odd length, before counters that are amiss, and margins of no whole number."""
+    amiss = counters_with({0: 1})
+    for length in (1, 7, 9):
+        for counters in (ref.ZEROED, amiss):
+            pages.decode_counters(5, 13, 1, (ref.CODE_A + b"\0")[:length], [0] * 26, [0], counters=counters, expect=3)
+    for length in (51, 53):
+        for counters in (ref.ZEROED, amiss):
+            pages.decode_counters(5, 13, 1, ref.CODE_A, [0] * 26, [0], lengths=(13, 13, 13, length), counters=counters,
+                                  expect=6)
 
 
 def make():

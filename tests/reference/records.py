@@ -6,7 +6,7 @@ import struct
 import reference as ref
 
 # The number of a call in the file; 0 opens a group.
-OPEN_GROUP, CHECK_TABLE, ENCODE, SYNDROME, DECODE, OPEN, PASS, EXPLAIN = range(8)
+OPEN_GROUP, CHECK_TABLE, ENCODE, SYNDROME, DECODE, OPEN, PASS, EXPLAIN, DECODE_COUNTERS = range(9)
 
 # What a record gives of a string's content.
 BEFORE, AFTER = 1, 2
@@ -37,6 +37,14 @@ def held(before, after):
         return read(before)
     assert len(after) == len(before)
     return struct.pack("<2I", len(before), BEFORE | AFTER) + before + after
+
+
+def decode_answers(lengths, number, got):
+    """The memory lent to a decode: result, syndrome, difference and margins, of these lengths, and the counts."""
+    written = [None] * 5
+    if number == 0:
+        written = [*got[:3], struct.pack(f"<{len(got.margins)}i", *got.margins), struct.pack("<4I", *got.counts)]
+    return [lent(length, number, content) for length, content in zip((*lengths, 16), written)]
 
 
 class Pages:
@@ -93,14 +101,23 @@ class Pages:
         self._call(SYNDROME, number, expect, [q, k, b], table, [read(page), lent(syndrome_len, number, s)])
 
     def decode(self, q, k, b, table, page, thresholds, lengths=None, expect=None):
-        """`lengths` are those of result, syndrome, difference and margins. Returns what the decode gave."""
+        """`lengths` are those of result, syndrome, difference and margins. Returns what the decode gave. The C tests run
+        the page with counters too."""
         lengths = ref.decode_lengths(k, b) if lengths is None else lengths
         number, got = ref.decode(q, k, b, table, page, thresholds, *lengths)
-        written = [None] * 5
-        if number == 0:
-            written = [*got[:3], struct.pack(f"<{b * k}i", *got.margins), struct.pack("<4I", *got.counts)]
-        answers = [lent(length, number, content) for length, content in zip((*lengths, 16), written)]
-        self._call(DECODE, number, expect, [q, k, b], table, [read(page), read(thresholds), *answers])
+        assert (number, got) == ref.decode_counters(q, k, b, table, page, thresholds, *lengths, counters=ref.ZEROED)
+        self._call(DECODE, number, expect, [q, k, b], table,
+                   [read(page), read(thresholds), *decode_answers(lengths, number, got)])
+        return got
+
+    def decode_counters(self, q, k, b, table, page, thresholds, lengths=None, counters=ref.ZEROED, expect=None):
+        """The counters stand before the counts, and hold after the call what they held before it."""
+        lengths = ref.decode_lengths(k, b) if lengths is None else lengths
+        number, got = ref.decode_counters(q, k, b, table, page, thresholds, *lengths, counters=counters)
+        assert number == 6 or (number, got) == ref.decode(q, k, b, table, page, thresholds, *lengths)
+        *answers, counts = decode_answers(lengths, number, got)
+        self._call(DECODE_COUNTERS, number, expect, [q, k, b], table,
+                   [read(page), read(thresholds), *answers, read(counters), counts])
         return got
 
     def open_page(self, q, k, b, table, page, lengths=None, expect=None):

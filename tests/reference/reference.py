@@ -1,10 +1,10 @@
-"""The page code and its decoder, as documents 01 and 02 (requests N1, N2 and N4 to N6) state them: clear rather than fast.
+"""The page code and its decoder, as documents 01 and 02 (requests N1, N2 and N4 to N7) state them: clear rather than fast.
 
-Shares no code and no tables with the library. `check_table`, `encode`, `syndrome`, `decode`, `open_page`, `pass_once` and
-`explain` take what the C calls take, with the lengths of buffers lent for an answer in place of the buffers. They return
-the number and, at 0, what was written. Elsewhere a code is q, k and its runs, a list of positions for each branch. Run as
-a program it tries itself on the worked cases of document 01, on the codes of N2, on the threshold lists of N4, on the
-passes of N5 and on the explanations of N6.
+Shares no code and no tables with the library. `check_table`, `encode`, `syndrome`, `decode`, `open_page`, `pass_once`,
+`explain` and `decode_counters` take what the C calls take, with the lengths of buffers lent for an answer in place of the
+buffers. They return the number and, at 0, what was written. Elsewhere a code is q, k and its runs, a list of positions
+for each branch. Run as a program it tries itself on the worked cases of document 01, on the codes of N2, on the threshold
+lists of N4, on the passes of N5, on the explanations of N6 and on the counters of N7.
 """
 
 import functools
@@ -13,6 +13,9 @@ from collections import Counter, namedtuple
 
 # The number of data symbols up to which self-orthogonality is tested on all pairs of them.
 ALL_PAIRS = 32
+
+# Counters, one for each value of a byte, as a caller must lend them.
+ZEROED = bytes(256)
 
 Counts = namedtuple("Counts", "passes changes start end")
 # `places` are the places, in the list of thresholds, of the passes that were run.
@@ -144,6 +147,10 @@ def bad_symbol(q, symbols):
     return any(s >= q for s in symbols)
 
 
+def bad_counters(counters):
+    return len(counters) != 256 or any(counters)
+
+
 def table_tests(q, k, b, table):
     return [
         (1, lambda: bad_q(q)),
@@ -179,9 +186,10 @@ def decode_lengths(k, b):
     return *buffer_lengths(k, b), 4 * b * k
 
 
-def decode_tests(q, k, b, table, page, thresholds, *lengths):
+def decode_tests(q, k, b, table, page, thresholds, *lengths, counters=ZEROED):
+    """Of a decode with counters too; one without them has none that are amiss."""
     return table_tests(q, k, b, table) + [
-        (6, lambda: len(page) != (b + 1) * k or lengths != decode_lengths(k, b)),
+        (6, lambda: len(page) != (b + 1) * k or lengths != decode_lengths(k, b) or bad_counters(counters)),
         (7, lambda: bad_symbol(q, page)),
         (8, lambda: not 1 <= len(thresholds) <= 64),
         (9, lambda: any(t > 32 for t in thresholds)),
@@ -227,11 +235,27 @@ def estimates(k, runs, s, d, j):
 
 def vote(values):
     """The commonest value h0, its count m0, and m1, the largest count of any other value, 0 if there is none. Of values
-    tied for first place h0 is the smallest; m1 is then m0."""
-    votes = Counter(values)
+    tied for first place h0 is the smallest; m1 is then m0. Each value is compared with all."""
+    votes = {value: values.count(value) for value in values}
     h0 = min(votes, key=lambda value: (-votes[value], value))
     m1 = max((count for value, count in votes.items() if value != h0), default=0)
     return h0, votes[h0], m1
+
+
+def vote_counted(values, counters):
+    """The vote of document 004: h0, m0, m1 and the number of zeros. There is a counter for each value, all are 0 before.
+    When all estimates are counted, each counter is read where its value first stands and cleared, so that it is read once
+    and only those that were used are written."""
+    for value in values:
+        counters[value] += 1
+    h0, m0, m1, zeros = 0, 0, 0, counters[0]
+    for value in values:
+        count, counters[value] = counters[value], 0
+        if count > m0 or count == m0 and value < h0:
+            h0, m0, m1 = value, count, m0
+        elif count > m1:
+            m1 = count
+    return h0, m0, m1, zeros
 
 
 def margin(values):
@@ -256,7 +280,7 @@ def opened(q, k, runs, page):
     return list(page[:n]), syndrome_of(q, k, runs, page), [0] * n
 
 
-def visit(q, k, runs, threshold, result, s, d, j):
+def visit(q, k, runs, threshold, result, s, d, j, vote=vote):
     """A visit to data symbol j. Alters the three lists where it makes a change, and returns whether it does."""
     before = estimates(k, runs, s, d, j)
     h0, m0, m1 = vote(before)
@@ -271,22 +295,31 @@ def visit(q, k, runs, threshold, result, s, d, j):
     return True
 
 
-def one_pass(q, k, runs, threshold, result, s, d):
+def one_pass(q, k, runs, threshold, result, s, d, vote=vote):
     """A visit to every data symbol in order. Alters the three lists and returns the number of changes."""
-    return sum(visit(q, k, runs, threshold, result, s, d, j) for j in range(len(runs) * k))
+    return sum(visit(q, k, runs, threshold, result, s, d, j, vote) for j in range(len(runs) * k))
 
 
-def run(q, k, runs, page, thresholds):
+def run(q, k, runs, page, thresholds, vote=vote):
     """All the passes. Returns result, S, D, the places of the passes run and the number of changes of each."""
     result, s, d = opened(q, k, runs, page)
     places, changes_of_pass = [], []
     place = 0
     while place is not None:
-        changes = one_pass(q, k, runs, thresholds[place], result, s, d)
+        changes = one_pass(q, k, runs, thresholds[place], result, s, d, vote)
         places.append(place)
         changes_of_pass.append(changes)
         place = next_place(thresholds, place, changes)
     return result, s, d, places, changes_of_pass
+
+
+def counts_of(q, k, runs, page, result, changes_of_pass):
+    """The four counts of a decode; a distance is that of the code word of the data from the page received."""
+    return Counts(
+        passes=len(changes_of_pass),
+        changes=sum(changes_of_pass),
+        start=distance(code_word(q, k, runs, page[:len(result)]), page),
+        end=distance(code_word(q, k, runs, result), page))
 
 
 def strict_minima(values):
@@ -323,11 +356,7 @@ def decode(q, k, b, table, page, thresholds, *lengths):
     page = list(page)
     result, s, d, places, changes_of_pass = run(q, k, runs, page, thresholds)
     margins = [margin(estimates(k, runs, s, d, j)) for j in range(b * k)]
-    counts = Counts(
-        passes=len(places),
-        changes=sum(changes_of_pass),
-        start=distance(code_word(q, k, runs, page[:b * k]), page),
-        end=distance(code_word(q, k, runs, result), page))
+    counts = counts_of(q, k, runs, page, result, changes_of_pass)
 
     # What document 01 says of every decode: result = received data + D, S = the code word's checks - the received checks.
     assert page_of(q, k, runs, result, s, d) == page
@@ -347,6 +376,30 @@ def decode(q, k, b, table, page, thresholds, *lengths):
         min(thresholds[places[-1]:])
     if counts.changes == 0:
         assert places == strict_minima(thresholds)
+    return 0, Decoded(result, s, d, margins, counts, places, changes_of_pass)
+
+
+def decode_counters(q, k, b, table, page, thresholds, *lengths, counters):
+    """As decode, with every vote by these counters: passes and margins. The counters are left as they are given."""
+    number = first_that_applies(decode_tests(q, k, b, table, page, thresholds, *lengths, counters=counters))
+    if number:
+        return number, None
+    runs, page, used = runs_of(b, table), list(page), list(counters)
+
+    def counted(values):
+        got = vote_counted(values, used)
+        # What N7 says of every vote, and of the counters after it.
+        assert got == (*vote(values), values.count(0)) and not any(used)
+        return got
+
+    def counted_margin(values):
+        """The largest count of a value other than 0 is m1 where 0 leads, else m0."""
+        h0, m0, m1, zeros = counted(values)
+        return zeros - (m1 if h0 == 0 else m0)
+
+    result, s, d, places, changes_of_pass = run(q, k, runs, page, thresholds, lambda values: counted(values)[:3])
+    margins = [counted_margin(estimates(k, runs, s, d, j)) for j in range(b * k)]
+    counts = counts_of(q, k, runs, page, result, changes_of_pass)
     return 0, Decoded(result, s, d, margins, counts, places, changes_of_pass)
 
 
@@ -479,6 +532,7 @@ def self_check():
     schedules_check()
     passes_check()
     explain_check()
+    counters_check()
 
 
 def branches_check():
@@ -696,7 +750,40 @@ def explain_check():
     assert grounds == {(t, ground) for t in range(3) for ground in (1, 2, 3)} | {(3, 1)}
 
 
+def counters_check():
+    """N7: votes by hand and both votes on many lists; decodes with counters against the same without; where 6 comes."""
+    counters = [0] * 256
+    for values, due in (([2, 2, 1, 1, 0], (1, 2, 2, 1)), ([1, 1, 2, 2, 0], (1, 2, 2, 1)), ([7, 7, 0, 9, 1], (7, 2, 1, 1)),
+                        ([0, 0], (0, 2, 0, 2)), ([255, 255], (255, 2, 0, 0)), ([255, 0], (0, 1, 1, 1)),
+                        ([0, 255, 0, 255], (0, 2, 2, 2)), ([3, 2, 3, 2, 3], (3, 3, 2, 0)),
+                        ([2, 3, 3, 2, 2], (2, 3, 2, 0)), ([5] + [0] * 32, (0, 32, 1, 32)), ([5] * 33, (5, 33, 0, 0)),
+                        (list(range(32, -1, -1)), (0, 1, 1, 1)), (list(range(255, 222, -1)), (223, 1, 1, 0))):
+        assert vote_counted(values, counters) == due and counters == [0] * 256
+    # Every list of 2 to 6 of four values, and of 33 equal ones.
+    short = itertools.chain(*(itertools.product((0, 1, 2, 255), repeat=n) for n in range(2, 7)))
+    for values in itertools.chain(map(list, short), ([value] * 33 for value in range(256))):
+        assert vote_counted(values, counters) == (*vote(values), values.count(0)) and counters == [0] * 256
+
+    # The same answers: on every page of code A with at most two symbols replaced, and with one branch more.
+    for page in pages_a_at_3():
+        arguments = 3, 13, 1, CODE_A, page, [2, 0, 0], *decode_lengths(13, 1)
+        assert decode_counters(*arguments, counters=ZEROED) == decode(*arguments)
+    two = 256, 13, 2, table_of([0, 1], [0, 2])
+    number, got = decode_counters(*two, symbols(39, {25: 250}), [0, 0], *decode_lengths(13, 2), counters=ZEROED)
+    assert number == 0 and got[:3] == ([0] * 26, [0] * 13, symbols(26, {25: 6})) and got.counts == (2, 1, 2, 1)
+    assert got.margins == [3] * 25 + [1]
+
+    # 6 also unless the counters are 256 and all 0, whatever q is; before 7, 8 and 9.
+    for counters in (b"", bytes(1), bytes(255), bytes(257), bytes(512), b"\1" + bytes(255), bytes(255) + b"\1",
+                     bytes(3) + b"\1" + bytes(252), b"\xff" * 256):
+        for page, thresholds in ((page_a(), [0]), (page_a({3: 5}), [0]), (page_a(), []), (page_a(), [33])):
+            arguments = 5, 13, 1, CODE_A, page, thresholds, *decode_lengths(13, 1)
+            assert decode_counters(*arguments, counters=counters) == (6, None)
+            assert decode_counters(*arguments, counters=ZEROED)[0] == decode(*arguments)[0] != 6
+        assert decode_counters(5, 12, *arguments[2:], counters=counters)[0] == 5
+
+
 if __name__ == "__main__":
     self_check()
-    print("The worked cases of document 01, the codes of N2, the threshold lists of N4, the passes of N5 and the "
-          "explanations of N6 pass.")
+    print("The worked cases of document 01, the codes of N2, the threshold lists of N4, the passes of N5, the "
+          "explanations of N6 and the counters of N7 pass.")

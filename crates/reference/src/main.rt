@@ -405,6 +405,77 @@ fn decode_is_right(record: &[u8]) -> bool {
     )
 }
 
+// A decode with counters finds the counters as the record gives them, and leaves them so.
+fn decode_counters_with(
+    record: &[u8],
+    thresholds: Piece,
+    first: &mut [u8],
+    second: &mut [u8],
+    third: &mut [u8],
+    fourth: &mut [i32],
+    fifth: &mut [u8],
+) -> bool {
+    let table = Piece::first(record);
+    let page = table.next(record);
+    let result = thresholds.next(record);
+    let syndrome = result.next(record);
+    let difference = syndrome.next(record);
+    let margins = difference.next(record);
+    let counters = margins.next(record);
+    let counts = counters.next(record);
+    let positions = read_positions(table.content(record));
+    let n = table.positions();
+    let got = decoder::decode_counters(
+        q_of(record),
+        k_of(record),
+        b_of(record),
+        &positions[0..n],
+        page.content(record),
+        thresholds.content(record),
+        first,
+        second,
+        third,
+        fourth,
+        fifth,
+    );
+    got.number == returned(record)
+        && result.is_due(record, first)
+        && syndrome.is_due(record, second)
+        && difference.is_due(record, third)
+        && margins.margins_are_due(record, fourth)
+        && counters.is_due(record, fifth)
+        && counts_are_due(got, record, counts)
+        && is_whole(record, 3, 9, counts)
+}
+
+fn decode_counters_is_right(record: &[u8]) -> bool {
+    let thresholds = Piece::first(record).next(record).next(record);
+    let result = thresholds.next(record);
+    let syndrome = result.next(record);
+    let difference = syndrome.next(record);
+    let margins = difference.next(record);
+    let counters = margins.next(record);
+    let mut first = filled();
+    let mut second = filled();
+    let mut third = filled();
+    let mut fourth = filled_margins();
+    let mut fifth = holding(counters.content(record));
+    let a = result.lent();
+    let b = syndrome.lent();
+    let c = difference.lent();
+    let d = margins.margins();
+    let e = counters.lent();
+    decode_counters_with(
+        record,
+        thresholds,
+        &mut first[0..a],
+        &mut second[0..b],
+        &mut third[0..c],
+        &mut fourth[0..d],
+        &mut fifth[0..e],
+    )
+}
+
 fn open_with(record: &[u8], first: &mut [u8], second: &mut [u8], third: &mut [u8]) -> bool {
     let table = Piece::first(record);
     let page = table.next(record);
@@ -556,6 +627,7 @@ fn is_right(record: &[u8]) -> bool {
         5 => open_is_right(record),
         6 => pass_is_right(record),
         7 => explain_is_right(record),
+        8 => decode_counters_is_right(record),
         _ => is_unknown(call),
     }
 }
