@@ -11,6 +11,7 @@
 #   make test-targets           the archives for the other processors: all built, four run under emulation
 #   make install PREFIX=..      header, archive and pkg-config file; TARGET=.. as above
 #   make bench                  the library against C: times, and instructions a data byte; TARGET=x86-64-v3 for AVX2
+#   make votes                  build/votes/libvotes.a, both votes alone, which bench/votes measures
 #   make pages, check-pages     make the reference pages, and what the screen must show, anew; compare them with the
 #                               committed ones
 #   make clean                  remove build/
@@ -22,8 +23,9 @@ TARGET_FLAGS =
 PYTHON = python3 -B
 CFLAGS = -std=c99 -O2 -Wall -Wextra -Werror
 
-# What the archive is made from: every crate but the test programs.
-SOURCES := $(shell find crates \( -path crates/reference -o -path crates/cases \) -prune -o -type f -print) crates.txt
+# What the archive is made from: every crate but the test programs and the votes that are measured alone.
+SOURCES := $(shell find crates \( -path crates/reference -o -path crates/cases -o -path crates/votes \) -prune -o -type f -print) crates.txt
+VOTES_SOURCES := $(shell find crates/votes -type f)
 VERSION := $(shell awk '/define QMTD_VERSION_(MAJOR|MINOR|PATCH) / { v = v dot $$3; dot = "." } END { print v }' include/qmtd.h)
 TARGETS := $(shell awk '!/^\#/ { print $$1 }' targets/list)
 ARCHIVE := build/$(TARGET)/libqmtd.a
@@ -34,7 +36,7 @@ endif
 
 .NOTPARALLEL:
 .DELETE_ON_ERROR:
-.PHONY: lib demo screen prove board test-c test-targets install bench pages check-pages clean
+.PHONY: lib demo screen prove board test-c test-targets install bench votes pages check-pages clean
 
 lib: $(ARCHIVE)
 
@@ -108,6 +110,14 @@ install: lib
 bench: lib
 	TARGET=$(TARGET) bench/run
 	@if command -v valgrind >/dev/null; then TARGET=$(TARGET) bench/count; else echo "no valgrind: instructions not counted"; fi
+
+votes: build/votes/libvotes.a
+
+build/votes/libvotes.a: $(SOURCES) $(VOTES_SOURCES)
+	@mkdir -p build/votes
+	@echo "building both votes .."
+	@$(RT) staticlib votes >build/prove.log 2>&1 || { cat build/prove.log; exit 1; }
+	cp target/staticlib/libvotes.a $@
 
 pages:
 	$(PYTHON) tests/reference/make_pages.py

@@ -1,5 +1,5 @@
 /* bench.c - measures the library beside the same calls in C, in one run:
- *   bench [--quick] [--ns] [--passes] [--rows FILTER]
+ *   bench [--quick] [--ns] [--counters] [--passes] [--rows FILTER]
  *
  * Every page is first put through all implementations, and all they return and write is compared. Then, sweep by sweep,
  * row by row and round by round, each implementation runs in turn; its fastest round counts.
@@ -8,14 +8,15 @@
  *   --ns            nanoseconds a data byte for all, instead of ratios
  *   --rows FILTER   only the rows with FILTER in their name
  *   --count         makes each call of the rows to count once, for bench/count
+ *   --counters      the library alone: decode with counters beside decode
  *   --passes        the library alone: decode with one threshold beside open and one pass with it */
 #define _POSIX_C_SOURCE 199309L
 #include "calls.h"
+#include "measure.h"
 
 #include <stdio.h>
 #include <stdlib.h>
 #include <string.h>
-#include <time.h>
 
 /* ---- The implementations ---- */
 
@@ -42,8 +43,10 @@ struct implementation {
     decode_call *decode;
 };
 
+static decode_call decode_counters;
+
 /* The library comes first: the others are compared with it. */
-static const struct implementation implementations[] = {
+static const struct implementation library_and_c[] = {
     CALLS("library", qmtd_),
     CALLS("plain gcc", plain_gcc_),
 #ifdef WITH_CLANG
@@ -54,7 +57,25 @@ static const struct implementation implementations[] = {
     CALLS("fast clang", fast_clang_),
 #endif
 };
-enum { IMPLEMENTATIONS = sizeof implementations / sizeof implementations[0] };
+enum { MAX_IMPLEMENTATIONS = sizeof library_and_c / sizeof library_and_c[0] };
+
+static const struct implementation both_votes[] = {
+    {"counters", qmtd_check_table, qmtd_encode, qmtd_syndrome, decode_counters},
+    CALLS("decode", qmtd_),
+};
+
+/* Decode with counters as a decode: they are lent as the last call left them. */
+static uint32_t decode_counters(uint32_t q, uint32_t k, uint32_t b, const uint8_t *table, uint64_t table_len,
+                                const uint8_t *page, uint64_t page_len, const uint8_t *thresholds,
+                                uint64_t thresholds_len, uint8_t *result, uint64_t result_len, uint8_t *syndrome,
+                                uint64_t syndrome_len, uint8_t *difference, uint64_t difference_len, uint8_t *margins,
+                                uint64_t margins_len, uint8_t *counts, uint64_t counts_len)
+{
+    static uint8_t counters[QMTD_COUNTERS_LEN];
+    return qmtd_decode_counters(q, k, b, table, table_len, page, page_len, thresholds, thresholds_len, result,
+                                result_len, syndrome, syndrome_len, difference, difference_len, margins, margins_len,
+                                counters, sizeof counters, counts, counts_len);
+}
 
 /* ---- Codes, pages and rows ---- */
 
@@ -65,7 +86,10 @@ struct code {
 /* The first is the example of document 01; spread is coprime to k. */
 static const struct code codes[] = {{13, 1, 4, 1},      {1021, 1, 12, 388}, {4096, 1, 10, 1531},
                                     {4096, 1, 32, 1531}, {1024, 2, 8, 387},  {1024, 4, 8, 387}};
-enum { CODES = sizeof codes / sizeof codes[0] };
+enum { MAX_CODES = sizeof codes / sizeof codes[0] };
+
+/* Few checks and many, with the same number of data symbols. */
+static const struct code vote_codes[] = {{4096, 1, 4, 1531}, {4096, 1, 12, 1531}, {4096, 1, 32, 1531}};
 
 static const uint32_t alphabets[] = {256, 251};
 enum { ALPHABETS = sizeof alphabets / sizeof alphabets[0] };
@@ -74,10 +98,24 @@ static const uint32_t damages[] = {0, 1, 5, 10}; /* symbols replaced, in percent
 enum { DAMAGES = sizeof damages / sizeof damages[0] };
 
 /* A table check, an encode and a syndrome, and a decode for each damage. */
-enum { MAX_ROWS = CODES * ALPHABETS * (3 + DAMAGES) };
+enum { MAX_ROWS = MAX_CODES * ALPHABETS * (3 + DAMAGES) };
 
 enum call { CHECK_TABLE, ENCODE, SYNDROME, DECODE };
 static const char *const call_names[] = {"check_table", "encode", "syndrome", "decode"};
+
+/* What is compared: the first implementation with the others, by its calls from `first` on. */
+static const struct comparison {
+    const struct implementation *implementations;
+    int count;
+    const struct code *codes;
+    int code_count;
+    enum call first;
+    const char *ratio;
+} library_with_c = {library_and_c, MAX_IMPLEMENTATIONS, codes, MAX_CODES, CHECK_TABLE,
+                    "library speed / C speed; above 1 the library is faster"},
+  votes = {both_votes, sizeof both_votes / sizeof both_votes[0], vote_codes, sizeof vote_codes / sizeof vote_codes[0],
+           DECODE, "speed with counters / speed without; above 1 it is faster with them"},
+  *compared = &library_with_c;
 
 struct row {
     char name[80];
@@ -92,17 +130,6 @@ struct answer {
     uint8_t page[QMTD_MAX_PAGE_LEN], result[QMTD_MAX_DATA], syndrome[QMTD_MAX_K], difference[QMTD_MAX_DATA];
     uint8_t margins[QMTD_MARGINS_LEN(QMTD_MAX_DATA, 1)], counts[QMTD_COUNTS_LEN];
 };
-
-/* A generator of numbers that are the same in every run (xorshift). */
-static uint64_t generator;
-
-static uint32_t draw(uint32_t below)
-{
-    generator ^= generator << 13;
-    generator ^= generator >> 7;
-    generator ^= generator << 17;
-    return (uint32_t)((generator >> 32) * below >> 32);
-}
 
 /* Takes the next position of a run: the first above the last one that gives no difference twice; taken has a flag for
  * each difference of all runs. Was there one? */
@@ -232,17 +259,18 @@ void counted_call(const struct implementation *by, const struct row *row, struct
     counted++;
 }
 
-/* Puts the row through all implementations; leaves the library's answer. Do all agree? */
+/* Puts the row through all implementations; leaves the answer of the first. Do all agree? */
 static int agree(const struct row *row, struct answer *first)
 {
-    for (int i = 0; i < IMPLEMENTATIONS; i++) {
+    for (int i = 0; i < compared->count; i++) {
         static struct answer other;
         struct answer *answer = i == 0 ? first : &other;
         memset(answer, 0xA5, sizeof *answer);
-        make_call(&implementations[i], row, answer);
+        make_call(&compared->implementations[i], row, answer);
         if (answer->number != QMTD_OK || memcmp(answer, first, sizeof *answer) != 0) {
-            fprintf(stderr, "%s: %s returned %u%s\n", row->name, implementations[i].name, (unsigned)answer->number,
-                    answer->number == first->number ? " and wrote other bytes than the library" : "");
+            fprintf(stderr, "%s: %s returned %u%s\n", row->name, compared->implementations[i].name,
+                    (unsigned)answer->number,
+                    answer->number == first->number ? " and wrote other bytes than the first" : "");
             return 0;
         }
     }
@@ -256,13 +284,6 @@ static uint32_t number_at(const uint8_t *bytes)
 
 /* ---- Measuring ---- */
 
-static double now(void)
-{
-    struct timespec t;
-    clock_gettime(CLOCK_MONOTONIC, &t);
-    return (double)t.tv_sec * 1e9 + (double)t.tv_nsec;
-}
-
 static double time_calls(const struct implementation *by, const struct row *row, unsigned repetitions)
 {
     static struct answer answer;
@@ -275,8 +296,9 @@ static double time_calls(const struct implementation *by, const struct row *row,
 /* The fastest round of each implementation so far, in nanoseconds a call; 0 before the first. */
 static void measure(const struct row *row, int rounds, double batch, double *best)
 {
-    unsigned repetitions[IMPLEMENTATIONS];
-    for (int i = 0; i < IMPLEMENTATIONS; i++) {
+    const struct implementation *implementations = compared->implementations;
+    unsigned repetitions[MAX_IMPLEMENTATIONS];
+    for (int i = 0; i < compared->count; i++) {
         time_calls(&implementations[i], row, 1);
         double once = time_calls(&implementations[i], row, 1);
         if (best[i] == 0 || once < best[i])
@@ -285,7 +307,7 @@ static void measure(const struct row *row, int rounds, double batch, double *bes
         repetitions[i] = wanted < 1 ? 1 : (unsigned)wanted;
     }
     for (int round = 0; round < rounds; round++)
-        for (int i = 0; i < IMPLEMENTATIONS; i++) {
+        for (int i = 0; i < compared->count; i++) {
             double t = time_calls(&implementations[i], row, repetitions[i]);
             if (t < best[i])
                 best[i] = t;
@@ -297,17 +319,16 @@ static void measure(const struct row *row, int rounds, double batch, double *bes
 static void print_head(int ns)
 {
     printf("decode: thresholds J/4, J/8, 1, 0\n");
-    printf("%-36s %8s ", "", "library");
-    for (int i = 1; i < IMPLEMENTATIONS; i++)
-        printf(" %11s", implementations[i].name);
-    printf("   passes changes\n%-36s %8s  %s\n", "", "ns/byte",
-           ns ? "ns/byte" : "library speed / C speed; above 1 the library is faster");
+    printf("%-36s %8s ", "", compared->implementations[0].name);
+    for (int i = 1; i < compared->count; i++)
+        printf(" %11s", compared->implementations[i].name);
+    printf("   passes changes\n%-36s %8s  %s\n", "", "ns/byte", ns ? "ns/byte" : compared->ratio);
 }
 
 static void print_row(const struct row *row, const double *best, const struct answer *answer, int ns)
 {
     printf("%-36s %8.3f ", row->name, best[0] / row->symbols);
-    for (int i = 1; i < IMPLEMENTATIONS; i++)
+    for (int i = 1; i < compared->count; i++)
         if (ns)
             printf(" %11.3f", best[i] / row->symbols);
         else
@@ -318,9 +339,11 @@ static void print_row(const struct row *row, const double *best, const struct an
     fflush(stdout);
 }
 
-/* The rows that bench/count counts. */
+/* The rows that bench/count counts; of both votes all of them. */
 static int to_count(const struct row *row, uint32_t damage)
 {
+    if (compared == &votes)
+        return 1;
     return (row->k == 1021 || row->positions == 32 || row->b == 4) &&
            (row->call == ENCODE || (row->call == DECODE && (damage == 0 || damage == 5)));
 }
@@ -328,11 +351,13 @@ static int to_count(const struct row *row, uint32_t damage)
 static void count_row(const struct row *row)
 {
     static struct answer answer;
-    for (int i = 0; i < IMPLEMENTATIONS; i++)
-        if (strncmp(implementations[i].name, "plain", 5) != 0) {
-            counted_call(&implementations[i], row, &answer);
-            printf("%u\t%s\t%s\n", (unsigned)row->symbols, implementations[i].name, row->name);
+    for (int i = 0; i < compared->count; i++) {
+        const struct implementation *by = &compared->implementations[i];
+        if (strncmp(by->name, "plain", 5) != 0) {
+            counted_call(by, row, &answer);
+            printf("%u\t%s\t%s\n", (unsigned)row->symbols, by->name, row->name);
         }
+    }
 }
 
 /* ---- Open and pass ---- */
@@ -388,19 +413,21 @@ int main(int argc, char **argv)
             ns = 1;
         } else if (strcmp(argv[i], "--count") == 0) {
             count = 1;
+        } else if (strcmp(argv[i], "--counters") == 0) {
+            compared = &votes;
         } else if (strcmp(argv[i], "--passes") == 0) {
             passes = 1;
         } else if (strcmp(argv[i], "--rows") == 0 && i + 1 < argc) {
             filter = argv[++i];
         } else {
-            fprintf(stderr, "bench [--quick] [--ns] [--count] [--passes] [--rows FILTER]\n");
+            fprintf(stderr, "bench [--quick] [--ns] [--count] [--counters] [--passes] [--rows FILTER]\n");
             return 2;
         }
 
     /* The whole table is swept several times: a burst of other load then spoils one sweep of a row, not all. */
     int sweeps = quick || count || passes ? 1 : 4, rounds = quick ? 5 : 30, rows = 0;
     double batch = quick ? 5e5 : 2e6;
-    static double best[MAX_ROWS][IMPLEMENTATIONS];
+    static double best[MAX_ROWS][MAX_IMPLEMENTATIONS];
     if (passes)
         printf("%-36s %8s %8s %8s %8s   %s\n", "ns a data symbol, one threshold, 0", "decode", "open", "and pass",
                "ratio", "changes");
@@ -408,16 +435,16 @@ int main(int argc, char **argv)
         print_head(ns);
     for (int sweep = 0; sweep < sweeps; sweep++) {
         rows = 0;
-        for (int c = 0; c < CODES; c++)
+        for (int c = 0; c < compared->code_count; c++)
             for (int a = 0; a < ALPHABETS; a++)
-                for (enum call call = CHECK_TABLE; call <= DECODE; call++)
+                for (enum call call = compared->first; call <= DECODE; call++)
                     for (int d = 0; d < DAMAGES; d++) {
                         static struct row row;
                         static struct answer answer;
                         /* A table check does not depend on q; only a decode depends on the damage. */
                         if ((call == CHECK_TABLE && a > 0) || (call != DECODE && d > 0))
                             continue;
-                        make_row(&row, &codes[c], alphabets[a], call, damages[d]);
+                        make_row(&row, &compared->codes[c], alphabets[a], call, damages[d]);
                         if (strstr(row.name, filter) == NULL || (count && !to_count(&row, damages[d])))
                             continue;
                         if (passes) {
