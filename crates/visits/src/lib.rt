@@ -135,8 +135,8 @@ fn full_vote(
     decided(&es[..n], threshold, zeros, counters)
 }
 
-// A visit to a data symbol, which the zeros do not settle, with one threshold. zeros has the zeros at the checks of each data symbol, before and after; counters
-// are 256 for a vote by them, or none, and all zero.
+// A visit to a data symbol, which the zeros do not settle, with one threshold. zeros has the zeros at the checks of each data
+// symbol, before and after; counters are 256 for a vote by them, or none, and all zero.
 pub fn visit(
     code: Params,
     positions: &[u16],
