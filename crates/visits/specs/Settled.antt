@@ -1,12 +1,11 @@
 -- Visits that the zeros at the checks settle: they change nothing, and can be passed over.
-use mathlib.Core.Path.{_≡_, sym, ap, _∙_}
+use mathlib.Core.Path.{_≡_, ap, _∙_}
 use mathlib.Core.List.{List}
 use Prim.Native.Nat.{ℕ, _+_, _≤_, _<_}
 use native.Mathlib.Decide.{ℕ-discrete}
 use native.Mathlib.Omega.{arith}
-use lib.ListN.{length, getD}
+use lib.ListN.{getD}
 use Rattle.model.specs.Code.{Code, dataCount, checksEach, checksOf}
-use Rattle.model.specs.Decoder.{Visit}
 use Rattle.model.specs.Symbols.{same, count, symbolsAt}
 use Rattle.theory.specs.Codes.{Usable, code-incidence}
 use Rattle.theory.specs.Counting.{count-cons, length-symbolsAt}
