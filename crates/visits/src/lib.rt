@@ -93,16 +93,12 @@ fn vote_by(es: &[u8], counters: &mut [u8]) -> Vote
     vote::vote_over(es)
 }
 
-// h0 where estimates are a change at a threshold, else 0. A change needs a leader that stands more often among the
-// estimates than their zeros and the threshold together, which a quick test tells before the vote.
-fn decided(es: &[u8], threshold: u8, zeros: u8, counters: &mut [u8]) -> u8
-    requires { ⌜ (2 ≤ length (now es)) × (length (now es) ≤ 33) × (zeros ≡ count 0 (now es)) × (zeros + threshold ≤ 255) × Clear (now counters) ⌝ }
+// h0 where estimates are a change at a threshold, else 0.
+fn decided(es: &[u8], threshold: u8, counters: &mut [u8]) -> u8
+    requires { ⌜ (2 ≤ length (now es)) × (length (now es) ≤ 33) × Clear (now counters) ⌝ }
     ensures subtracts { λ r. ⌜ r ≡ toSubtract threshold (now (es .entry)) ⌝ }
     ensures kept { λ r. ⌜ now (counters .exit) ≡ now (counters .entry) ⌝ }
 {
-    if !vote::lead_above(es, zeros + threshold) {
-        return 0;
-    }
     let v = vote_by(es, counters);
     if v.lead - v.next <= threshold {
         return 0;
@@ -110,7 +106,8 @@ fn decided(es: &[u8], threshold: u8, zeros: u8, counters: &mut [u8]) -> u8
     v.leader
 }
 
-// The same for the estimates of symbol j of a branch, which are gathered first.
+// The same for the estimates of symbol j of a branch. A change needs a leader that stands more often among them than their zeros and
+// the threshold together, which a quick test tells before they are gathered.
 fn full_vote(
     code: Params,
     positions: &[u16],
@@ -129,10 +126,13 @@ fn full_vote(
     ensures subtracts { λ r. ⌜ r ≡ toSubtract threshold (estimatesBy (code .k) (now (positions .entry)) j own (now (syndrome .entry))) ⌝ }
     ensures kept { λ r. ⌜ now (counters .exit) ≡ now (counters .entry) ⌝ }
 {
+    if !leads::lead_above(code, positions, j, own, syndrome, zeros + threshold) {
+        return 0;
+    }
     let n = positions.len() + 1;
     let mut es = [0u8; 33];
     checks::gather(code, positions, j, own, syndrome, &mut es[..n]);
-    decided(&es[..n], threshold, zeros, counters)
+    decided(&es[..n], threshold, counters)
 }
 
 // A visit to a data symbol, which the zeros do not settle, with one threshold. zeros has the zeros at the checks of each data

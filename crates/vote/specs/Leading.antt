@@ -1,12 +1,16 @@
 -- What the vote tells, a value with its count, and the turns of the loops that find them.
 use mathlib.Core.Path.{_≡_, refl, sym, ap}
+use mathlib.Core.Logic.{_≢_}
 use mathlib.Core.Bool.{Bool, true, false, _&&_, _||_}
 use mathlib.Core.List.{List}
-use Prim.Native.Nat.{ℕ}
+use Prim.Native.Nat.{ℕ, _+_, _<_}
+use native.Mathlib.Omega.{arith}
+use borrow.Author.Tests.{le-ltb, ne-eqb}
 use lib.Dec.{eqb, ltb}
-use lib.ListN.{take}
+use lib.ListN.{length, take}
 use Rattle.model.specs.Symbols.{choose, count}
 use Rattle.model.specs.Vote.{beforeBy, firstBy, otherBy, leader, leadCount, nextCount, zeroCount}
+use Rattle.theory.specs.Counting.{count-misses, count-other}
 use Rattle.vote.specs.declared.Lead.{Lead}
 use Rattle.vote.specs.declared.Vote.{Vote}
 
@@ -37,6 +41,10 @@ module _ (m : ℕ → ℕ) where
   lead-same true a b e = ap (λ (v : ℕ). leadBy m v) (sym e)
   lead-same false a b e = refl
 
+  -- the first of a value and one of a smaller count
+  pub lead-behind : (a b : ℕ) → m a < m b → leadBy m b ≡ leadBy m (choose (beforeBy m a b) a b)
+  lead-behind a b h = simp (le-ltb (m b) (m a) (omega arith), ne-eqb (m b) (m a) (λ e. omega arith)) refl
+
   -- where no candidate was passed
   pub first-none : (b : ℕ) (cs : List ℕ) → firstBy m b (take 0 cs) ≡ b
   unfolding firstBy
@@ -45,3 +53,7 @@ module _ (m : ℕ → ℕ) where
   pub other-none : (h : ℕ) (cs : List ℕ) → otherBy m h (take 0 cs) ≡ 0
   unfolding otherBy
   other-none h cs = refl
+
+-- a value that is more than half of the estimates stands more often than any other
+pub more-than-half : (es : List ℕ) (a b : ℕ) → a ≢ b → length es < count b es + count b es → count a es < count b es
+more-than-half es a b n h = omega (arith, count-other a b es n, count-misses b es)

@@ -1,11 +1,11 @@
-// The vote over estimates, and a quick test before it.
+// The vote over estimates.
 ghost use mathlib.Core.Path.{_≡_};
 ghost use mathlib.Core.Bool.{_&&_, _||_};
 ghost use Prim.Native.Nat.{_<_, _≤_, max};
 ghost use lib.Dec.{eqb, ltb};
 ghost use lib.ListN.{length};
 ghost use Rattle.model.specs.Symbols.{choose, count};
-ghost use Rattle.model.specs.Vote.{goesBefore, leader, leadCount, otherCount};
+ghost use Rattle.model.specs.Vote.{goesBefore, leader, otherCount};
 ghost use Rattle.vote.specs.Leading.{leadOf, voteOf};
 
 // How often v stands among the estimates.
@@ -44,12 +44,17 @@ pub fn first_of(best: Lead, a: u8, n: u8) -> Lead
     best
 }
 
-// The first of the leader so far and one candidate, which is counted unless it is that leader.
+// The first of the leader so far and one candidate, which is counted unless it is that leader, or that leader is more than half of
+// the estimates: then no other value stands as often.
 fn first_in(es: &[u8], best: Lead, a: u8) -> Lead
     requires { ⌜ (length (now es) ≤ 255) × (best ≡ leadOf (now es) (best .value)) ⌝ }
     ensures { λ r. ⌜ r ≡ leadOf (now (es .entry)) (choose (goesBefore (now (es .entry)) a (best .value)) a (best .value)) ⌝ }
 {
     if a == best.value {
+        return best;
+    }
+    let m = best.count as usize;
+    if es.len() < m + m {
         return best;
     }
     first_of(best, a, count_equal(es, a))
@@ -151,23 +156,4 @@ pub fn most_other(es: &[u8]) -> u8
         i += 1;
     }
     most
-}
-
-// A quick test before the vote: whether the leader's count is above the bound, by a counter for each value.
-pub fn lead_above(es: &[u8], bound: u8) -> bool
-    requires { ⌜ length (now es) ≤ 33 ⌝ }
-    ensures { λ r. ⌜ r ≡ ltb bound (leadCount (now (es .entry))) ⌝ }
-{
-    let mut counters = [0u8; 256];
-    let mut i = 0;
-    while i < es.len() {
-        let e = es[i] as usize;
-        let c = counters[e] + 1;
-        if bound < c {
-            return true;
-        }
-        counters[e] = c;
-        i += 1;
-    }
-    false
 }

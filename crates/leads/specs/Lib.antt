@@ -1,0 +1,2 @@
+-- The estimates of a data symbol, counted where they stand.
+pub mod Counting
