@@ -1,61 +1,13 @@
-// The C forms of decode and of decode with counters.
+// The C form of decode, which reads the positions of the table.
+use params::Params;
 ghost use mathlib.Core.Path.{_≡_};
 ghost use mathlib.Core.Bool.{true};
 ghost use Rattle.model.specs.Code.{codeOf};
 ghost use Rattle.model.specs.Decoder.{stateBy, decodedCounts};
-ghost use Rattle.model.specs.Bytes.{positionsOf, cDecodeOutcome, cDecodeCountersOutcome};
+ghost use Rattle.model.specs.Bytes.{positionsOf, cDecodeOutcome};
 ghost use Rattle.model.specs.Demand.{DecodeFalls, DecodeRecovers};
 
-// Decodes a page. The votes are taken by 256 lent counters, which are all zero before and after.
-pub fn decode_counters(
-    q: u32,
-    k: u32,
-    b: u32,
-    table: &[u8],
-    page: &[u8],
-    thresholds: &[u8],
-    result: &mut [u8],
-    syndrome: &mut [u8],
-    difference: &mut [u8],
-    margins: &mut [u8],
-    counters: &mut [u8],
-    counts: &mut [u8],
-) -> u32
-    ensures outcome { λ r. ⌜ record {
-      given = record {
-        number = r;
-        left = record {
-          state = stateBy (now (result .exit)) (now (syndrome .exit)) (now (difference .exit));
-          margins = now (margins .exit);
-          counts = now (counts .exit);
-        };
-      };
-      counters = now (counters .exit);
-    } ≡ cDecodeCountersOutcome (codeOf q k b (positionsOf (now (table .entry)))) (now (page .entry)) (now (thresholds .entry))
-        (stateBy (now (result .entry)) (now (syndrome .entry)) (now (difference .entry))) (now (margins .entry)) (now (counters .entry)) (now (counts .entry)) ⌝ }
-    ensures falling { λ r. ⌜ (r ≡ 0 → DecodeFalls (codeOf q k b (positionsOf (now (table .entry)))) (now (thresholds .entry)) (now (page .entry))
-        (decodedCounts (codeOf q k b (positionsOf (now (table .entry)))) (now (thresholds .entry)) (now (page .entry)))) ⌝ }
-    ensures recovery { λ r. ⌜ (r ≡ 0 → DecodeRecovers (codeOf q k b (positionsOf (now (table .entry)))) (now (thresholds .entry)) (now (page .entry)) (now (result .exit))) ⌝ }
-{
-    let fit = answers::counters_fit(counters);
-    c_read::decode_read(
-        fit,
-        q,
-        k,
-        b,
-        table,
-        page,
-        thresholds,
-        counters,
-        result,
-        syndrome,
-        difference,
-        margins,
-        counts,
-    )
-}
-
-// Decodes a page. The votes are taken pair by pair.
+// Decodes a page. A small table is read into a small buffer, which costs less to clear.
 pub fn decode(
     q: u32,
     k: u32,
@@ -82,16 +34,33 @@ pub fn decode(
         (decodedCounts (codeOf q k b (positionsOf (now (table .entry)))) (now (thresholds .entry)) (now (page .entry)))) ⌝ }
     ensures recovery { λ r. ⌜ (r ≡ 0 → DecodeRecovers (codeOf q k b (positionsOf (now (table .entry)))) (now (thresholds .entry)) (now (page .entry)) (now (result .exit))) ⌝ }
 {
-    let mut none = [0u8; 0];
-    c_read::decode_read(
-        true,
+    let code = Params {
         q,
-        k,
-        b,
-        table,
+        k: k as usize,
+        b: b as usize,
+    };
+    if table.len() <= 64 {
+        let mut few = [0u16; 32];
+        let n = octets::read_positions(table, &mut few);
+        return c_sized::decode_sized(
+            code,
+            &few[..n],
+            page,
+            thresholds,
+            result,
+            syndrome,
+            difference,
+            margins,
+            counts,
+        );
+    }
+    let mut positions = [0u16; 256];
+    let n = octets::read_positions(table, &mut positions);
+    c_sized::decode_sized(
+        code,
+        &positions[..n],
         page,
         thresholds,
-        &mut none,
         result,
         syndrome,
         difference,

@@ -2,29 +2,25 @@
 use params::Params;
 ghost use mathlib.Core.Path.{_≡_};
 ghost use mathlib.Core.Bool.{true};
-ghost use Rattle.model.specs.Code.{codeOf};
+ghost use Prim.Native.Nat.{_≤_};
 ghost use Rattle.model.specs.Decoder.{stateBy, decodedCounts};
 ghost use Rattle.model.specs.Bytes.{cDecodeOutcome};
 ghost use Rattle.model.specs.Demand.{DecodeFalls, DecodeRecovers};
-ghost use Rattle.theory.specs.Counters.{Clear};
+ghost use Rattle.params.specs.Codes.{codeBy};
 
-// Decodes a page, with the positions read, and the counters that are lent, or none; `others` says whether these fit. A small code has a small buffer for the zeros, which costs less to clear.
+// Decodes a page, with the positions read. No counters are lent. A small code has a small buffer for the zeros, which costs less to clear.
 pub fn decode_sized(
-    others: bool,
-    q: u32,
-    k: u32,
-    b: u32,
+    code: Params,
     positions: &[u16],
     page: &[u8],
     thresholds: &[u8],
-    counters: &mut [u8],
     result: &mut [u8],
     syndrome: &mut [u8],
     difference: &mut [u8],
     margins: &mut [u8],
     counts: &mut [u8],
 ) -> u32
-    requires { ⌜ (others ≡ true → Clear (now counters)) ⌝ }
+    requires { ⌜ (code .k ≤ 4294967295) × (code .b ≤ 4294967295) ⌝ }
     ensures outcome { λ r. ⌜ record {
       number = r;
       left = record {
@@ -32,28 +28,23 @@ pub fn decode_sized(
         margins = now (margins .exit);
         counts = now (counts .exit);
       };
-    } ≡ cDecodeOutcome (codeOf q k b (now (positions .entry))) others (now (page .entry)) (now (thresholds .entry))
+    } ≡ cDecodeOutcome (codeBy code (now (positions .entry))) true (now (page .entry)) (now (thresholds .entry))
         (stateBy (now (result .entry)) (now (syndrome .entry)) (now (difference .entry))) (now (margins .entry)) (now (counts .entry)) ⌝ }
-    ensures falling { λ r. ⌜ (r ≡ 0 → DecodeFalls (codeOf q k b (now (positions .entry))) (now (thresholds .entry)) (now (page .entry))
-        (decodedCounts (codeOf q k b (now (positions .entry))) (now (thresholds .entry)) (now (page .entry)))) ⌝ }
-    ensures recovery { λ r. ⌜ (r ≡ 0 → DecodeRecovers (codeOf q k b (now (positions .entry))) (now (thresholds .entry)) (now (page .entry)) (now (result .exit))) ⌝ }
-    ensures kept { λ r. ⌜ now (counters .exit) ≡ now (counters .entry) ⌝ }
+    ensures falling { λ r. ⌜ (r ≡ 0 → DecodeFalls (codeBy code (now (positions .entry))) (now (thresholds .entry)) (now (page .entry))
+        (decodedCounts (codeBy code (now (positions .entry))) (now (thresholds .entry)) (now (page .entry)))) ⌝ }
+    ensures recovery { λ r. ⌜ (r ≡ 0 → DecodeRecovers (codeBy code (now (positions .entry))) (now (thresholds .entry)) (now (page .entry)) (now (result .exit))) ⌝ }
 {
-    let code = Params {
-        q,
-        k: k as usize,
-        b: b as usize,
-    };
+    let mut none = [0u8; 0];
     if params::data_count(code) <= 128 {
         let mut few = [0u8; 128];
         return c_receiver::decode_into(
-            others,
+            true,
             code,
             positions,
             page,
             thresholds,
             &mut few,
-            counters,
+            &mut none,
             result,
             syndrome,
             difference,
@@ -63,13 +54,13 @@ pub fn decode_sized(
     }
     let mut zeros = [0u8; 4096];
     c_receiver::decode_into(
-        others,
+        true,
         code,
         positions,
         page,
         thresholds,
         &mut zeros,
-        counters,
+        &mut none,
         result,
         syndrome,
         difference,

@@ -131,7 +131,7 @@ pub extern "C" fn qmtd_decode_counters(
         (decodedCounts (codeOf q k b (positionsOf (now (table .entry)))) (now (thresholds .entry)) (now (page .entry)))) ⌝ }
     ensures recovery { λ r. ⌜ (r ≡ 0 → DecodeRecovers (codeOf q k b (positionsOf (now (table .entry)))) (now (thresholds .entry)) (now (page .entry)) (now (result .exit))) ⌝ }
 {
-    c_decoder::decode_counters(
+    c_counters::decode_counters(
         q,
         k,
         b,

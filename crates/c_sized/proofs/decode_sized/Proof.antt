@@ -2,19 +2,26 @@
 use borrow.Author.Needs.{needs}
 use native.Mathlib.Omega.{arith}
 use Rattle.params.specs.Sizes.{sizes-fit}
+use Rattle.theory.specs.Counters.{none-clear}
 use Rattle.c_sized.proofs.decode_sized.Statement.{statement}
 use Rattle.c_sized.proofs.decode_sized.Tie as tie
 
 data-count-requires : tie.Need-data-count-requires
 data-count-requires c κs =
-    let a = c .before .before .before .before .before .before .before .before .before .args in
-    omega (arith, sizes-fit (a .k) (a .b) (omega arith) (omega arith))
+    let s = c .before .before .before .before .before .before .before .before in
+    omega (arith, sizes-fit (s .args .code .k) (s .args .code .b) (s .pre .0) (s .pre .1))
 
 slice-aggregate-decode-into : tie.Need-slice-aggregate-decode-into
 slice-aggregate-decode-into c = search needs
 
+slice-aggregate-decode-into-2 : tie.Need-slice-aggregate-decode-into-2
+slice-aggregate-decode-into-2 c = search needs
+
 decode-into-requires : tie.Need-decode-into-requires
-decode-into-requires c κs = search needs
+decode-into-requires c κs =
+    let t = c .before .before .before .before .before .before .before in
+    let p = t .before .before .before .before .before .before .before .before .before .before .pre in
+    (p .0, p .1, λ h. omega (arith, t .if1 .taken, t .before .data-count .ensures), λ e. none-clear)
 
 same-length : tie.Need-same-length
 same-length c = search needs
@@ -31,17 +38,20 @@ same-length-4 c = search needs
 same-length-5 : tie.Need-same-length-5
 same-length-5 c = search needs
 
-same-length-6 : tie.Need-same-length-6
-same-length-6 c = search needs
-
 returns : tie.Need-returns
-returns c = search needs
+returns c = let e = c .before .before .before .before .before .before .before .before .before .before .before .before .decode-into .ensures in (e .0, (e .1 .0, e .1 .1 .0))
 
-slice-aggregate-decode-into-2 : tie.Need-slice-aggregate-decode-into-2
-slice-aggregate-decode-into-2 c = search needs
+slice-aggregate-decode-into-3 : tie.Need-slice-aggregate-decode-into-3
+slice-aggregate-decode-into-3 c = search needs
+
+slice-aggregate-decode-into-4 : tie.Need-slice-aggregate-decode-into-4
+slice-aggregate-decode-into-4 c = search needs
 
 decode-into-requires-2 : tie.Need-decode-into-requires-2
-decode-into-requires-2 c κs = search needs
+decode-into-requires-2 c κs = let p = c .before .before .before .before .before .before .before .before .before .before .before .before .before .before .before .before .before .pre in (p .0, p .1, λ h. h, λ e. none-clear)
+
+same-length-6 : tie.Need-same-length-6
+same-length-6 c = search needs
 
 same-length-7 : tie.Need-same-length-7
 same-length-7 c = search needs
@@ -55,14 +65,8 @@ same-length-9 c = search needs
 same-length-10 : tie.Need-same-length-10
 same-length-10 c = search needs
 
-same-length-11 : tie.Need-same-length-11
-same-length-11 c = search needs
-
-same-length-12 : tie.Need-same-length-12
-same-length-12 c = search needs
-
 returns-2 : tie.Need-returns-2
-returns-2 c = search needs
+returns-2 c = let e = c .before .before .before .before .before .before .before .before .before .before .before .before .decode-into2 .ensures in (e .0, (e .1 .0, e .1 .1 .0))
 
 pub decode-sized-spec : {M : Type 1} → statement M
 decode-sized-spec =
@@ -70,20 +74,20 @@ decode-sized-spec =
     (tie.spec
     data-count-requires
     slice-aggregate-decode-into
+    slice-aggregate-decode-into-2
     decode-into-requires
     same-length
     same-length-2
     same-length-3
     same-length-4
     same-length-5
-    same-length-6
     returns
-    slice-aggregate-decode-into-2
+    slice-aggregate-decode-into-3
+    slice-aggregate-decode-into-4
     decode-into-requires-2
+    same-length-6
     same-length-7
     same-length-8
     same-length-9
     same-length-10
-    same-length-11
-    same-length-12
     returns-2)
