@@ -5,7 +5,7 @@ ghost use mathlib.Core.Bool.{_&&_};
 ghost use Prim.Native.Nat.{_+_, _*_, _≤_};
 ghost use lib.Dec.{eqb};
 ghost use Rattle.model.specs.Decoder.{stateBy};
-ghost use Rattle.model.specs.Calls.{firstThatApplies, pageTests, thresholdTests, countersFit, decodeAnswer, passAnswer, explainAnswer};
+ghost use Rattle.model.specs.Calls.{allBelow, firstThatApplies, pageTests, thresholdTests, countersFit, decodeAnswer, passAnswer, explainAnswer};
 ghost use Rattle.params.specs.Codes.{codeBy};
 
 // Two lengths are as a call needs them.
@@ -104,6 +104,20 @@ pub fn page_answer(code: Params, positions: &[u16], fits: bool, input: &[u8]) ->
     0
 }
 
+// Whether every threshold is at most 32. The list is short, so each is tested by itself.
+fn all_small(thresholds: &[u8]) -> bool
+    ensures { λ r. ⌜ r ≡ allBelow 33 (now (thresholds .entry)) ⌝ }
+{
+    let mut i = 0;
+    while i < thresholds.len() {
+        if 32 < thresholds[i] {
+            return false;
+        }
+        i += 1;
+    }
+    true
+}
+
 // Tests 8 and 9.
 pub fn threshold_answer(thresholds: &[u8]) -> u32
     ensures { λ r. ⌜ r ≡ firstThatApplies (thresholdTests (now (thresholds .entry))) ⌝ }
@@ -111,7 +125,7 @@ pub fn threshold_answer(thresholds: &[u8]) -> u32
     if !table::within(1, 64, thresholds.len()) {
         return 8;
     }
-    if !slices::all_below(33, thresholds) {
+    if !all_small(thresholds) {
         return 9;
     }
     0
