@@ -8,14 +8,7 @@ ghost use Rattle.checks.specs.Checks.{AtChecks, estimatesBy};
 
 // Whether the leader's count among the estimates of symbol j of a branch is above the bound, by a counter for each value. The estimates are
 // read where they stand: most visits end with this test, and need them gathered for nothing else.
-pub fn lead_above(
-    code: Params,
-    positions: &[u16],
-    j: usize,
-    own: u8,
-    s: &[u8],
-    bound: u8,
-) -> bool
+pub fn lead_above(code: Params, positions: &[u16], j: usize, own: u8, s: &[u8], bound: u8) -> bool
     requires { ⌜ AtChecks (code .k) (now positions) (now s) × (j < code .k) ⌝ }
     ensures { λ r. ⌜ r ≡ ltb bound (leadCount (estimatesBy (code .k) (now (positions .entry)) j own (now (s .entry)))) ⌝ }
 {

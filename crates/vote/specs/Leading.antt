@@ -1,16 +1,16 @@
 -- What the vote tells, a value with its count, and the turns of the loops that find them.
 use mathlib.Core.Path.{_≡_, refl, sym, ap}
-use mathlib.Core.Logic.{_≢_}
 use mathlib.Core.Bool.{Bool, true, false, _&&_, _||_}
 use mathlib.Core.List.{List}
 use Prim.Native.Nat.{ℕ, _+_, _<_}
+use native.Mathlib.Decide.{ℕ-discrete}
 use native.Mathlib.Omega.{arith}
-use borrow.Author.Tests.{le-ltb, ne-eqb}
 use lib.Dec.{eqb, ltb}
 use lib.ListN.{length, take}
 use Rattle.model.specs.Symbols.{choose, count}
 use Rattle.model.specs.Vote.{beforeBy, firstBy, otherBy, leader, leadCount, nextCount, zeroCount}
 use Rattle.theory.specs.Counting.{count-misses, count-other}
+use Rattle.theory.specs.Voting.{lead-max}
 use Rattle.vote.specs.declared.Lead.{Lead}
 use Rattle.vote.specs.declared.Vote.{Vote}
 
@@ -41,10 +41,6 @@ module _ (m : ℕ → ℕ) where
   lead-same true a b e = ap (λ (v : ℕ). leadBy m v) (sym e)
   lead-same false a b e = refl
 
-  -- the first of a value and one of a smaller count
-  pub lead-behind : (a b : ℕ) → m a < m b → leadBy m b ≡ leadBy m (choose (beforeBy m a b) a b)
-  lead-behind a b h = simp (le-ltb (m b) (m a) (omega arith), ne-eqb (m b) (m a) (λ e. omega arith)) refl
-
   -- where no candidate was passed
   pub first-none : (b : ℕ) (cs : List ℕ) → firstBy m b (take 0 cs) ≡ b
   unfolding firstBy
@@ -54,6 +50,10 @@ module _ (m : ℕ → ℕ) where
   unfolding otherBy
   other-none h cs = refl
 
--- a value that is more than half of the estimates stands more often than any other
-pub more-than-half : (es : List ℕ) (a b : ℕ) → a ≢ b → length es < count b es + count b es → count a es < count b es
-more-than-half es a b n h = omega (arith, count-other a b es n, count-misses b es)
+-- a value that is more than half of the estimates is their leader
+pub more-than-half : (es : List ℕ) (v : ℕ) → length es < count v es + count v es → v ≡ leader es
+unfolding leadCount
+more-than-half es v h = elim (ℕ-discrete v (leader es)) as (λ o. v ≡ leader es) [
+  | yes e ↦ e
+  | no n ↦ absurd (omega (arith, lead-max es v, count-other (leader es) v es (λ e. n (sym e)), count-misses v es))
+]

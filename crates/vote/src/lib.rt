@@ -44,8 +44,7 @@ pub fn first_of(best: Lead, a: u8, n: u8) -> Lead
     best
 }
 
-// The first of the leader so far and one candidate, which is counted unless it is that leader, or that leader is more than half of
-// the estimates: then no other value stands as often.
+// The first of the leader so far and one candidate, which is counted unless it is that leader.
 fn first_in(es: &[u8], best: Lead, a: u8) -> Lead
     requires { ⌜ (length (now es) ≤ 255) × (best ≡ leadOf (now es) (best .value)) ⌝ }
     ensures { λ r. ⌜ r ≡ leadOf (now (es .entry)) (choose (goesBefore (now (es .entry)) a (best .value)) a (best .value)) ⌝ }
@@ -53,14 +52,11 @@ fn first_in(es: &[u8], best: Lead, a: u8) -> Lead
     if a == best.value {
         return best;
     }
-    let m = best.count as usize;
-    if es.len() < m + m {
-        return best;
-    }
     first_of(best, a, count_equal(es, a))
 }
 
-// The leader of the estimates, and its count.
+// The leader of the estimates, and its count. One that is more than half of them is found without a look at the rest: no other value
+// stands as often.
 fn leader_of(es: &[u8]) -> Lead
     requires { ⌜ (0 < length (now es)) × (length (now es) ≤ 255) ⌝ }
     ensures { λ r. ⌜ r ≡ leadOf (now (es .entry)) (leader (now (es .entry))) ⌝ }
@@ -72,6 +68,10 @@ fn leader_of(es: &[u8]) -> Lead
     };
     let mut i = 0;
     while i < es.len() {
+        let m = best.count as usize;
+        if es.len() < m + m {
+            return best;
+        }
         best = first_in(es, best, es[i]);
         i += 1;
     }
