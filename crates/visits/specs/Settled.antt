@@ -1,10 +1,13 @@
 -- Visits that the zeros at the checks settle: they change nothing, and can be passed over.
-use mathlib.Core.Path.{_≡_, ap, _∙_}
+use mathlib.Core.Path.{_≡_, ap, sym, _∙_}
+use mathlib.Core.Bool.{Bool, true, false}
 use mathlib.Core.List.{List}
 use Prim.Native.Nat.{ℕ, _+_, _≤_, _<_}
 use native.Mathlib.Decide.{ℕ-discrete}
 use native.Mathlib.Omega.{arith}
+use lib.Dec.{leb}
 use lib.ListN.{getD}
+use borrow.Author.Tests.{leb-true, leb-false}
 use Rattle.model.specs.Code.{Code, dataCount, checksEach, checksOf}
 use Rattle.model.specs.Symbols.{same, count, symbolsAt}
 use Rattle.theory.specs.Codes.{Usable, code-incidence}
@@ -39,6 +42,13 @@ open-more {J} {t} {a} {b} {r} {d} {zs} f h s = record {
   high = omega arith;
   passed = (λ j l m. elim (ℕ-discrete j r) as (λ o. Settled J t d zs j) [ yes e ↦ rw e s | no n ↦ f .passed j l (omega arith) ]);
 }
+
+-- the test of a symbol, where it is passed and where it is not
+pub open-yes : (J n : ℕ) (b : Bool) → b ≡ leb n J → b ≡ true → n ≤ J
+open-yes J n b e t = leb-true n J (sym e ∙ t)
+
+pub open-no : (J n : ℕ) (b : Bool) → b ≡ leb n J → b ≡ false → J < n
+open-no J n b e t = leb-false n J (sym e ∙ t)
 
 -- the first place of p's branch from symbol a on that is not settled, or the one after its last symbol
 pub record OpenFrom (J t : ℕ) (d zs : List ℕ) (p : Place) (a : ℕ) (r : Place) : Type 0 where

@@ -5,10 +5,11 @@ use tally::Tally;
 use vote::Vote;
 ghost use mathlib.Core.Path.{_≡_};
 ghost use Prim.Native.Nat.{_+_, _<_, _≤_};
+ghost use lib.Dec.{leb};
 ghost use lib.ListN.{length, getD, set};
 ghost use Rattle.model.specs.Code.{checksEach, checksOf};
 ghost use Rattle.model.specs.Decoder.{stateBy, change};
-ghost use Rattle.model.specs.Symbols.{sub, count};
+ghost use Rattle.model.specs.Symbols.{same, sub, count};
 ghost use Rattle.params.specs.Codes.{codeBy};
 ghost use Rattle.theory.specs.Counters.{Clear};
 ghost use Rattle.vote.specs.Leading.{voteOf};
@@ -185,7 +186,16 @@ pub fn visit(
     tally.changed()
 }
 
-// The first data symbol from one on, and before the end, that the zeros do not settle, or the end.
+// Whether a data symbol's visit is not settled by the zeros at its checks: counted twice, with its own difference among them, they and
+// the threshold are at most J.
+fn is_open(each: usize, threshold: u8, own: u8, zeros: u8) -> bool
+    ensures { λ r. ⌜ r ≡ leb (zeros + same 0 own + (zeros + same 0 own) + threshold) each ⌝ }
+{
+    let n = (zeros as usize) + (symbols::equal(0, own) as usize);
+    n + n + (threshold as usize) <= each
+}
+
+// The first data symbol from one on, and before the end, that the zeros do not settle, or the end. Two are looked at in a turn.
 fn first_open(
     each: usize,
     threshold: u8,
@@ -199,14 +209,21 @@ fn first_open(
     ensures found { λ r. ⌜ (r < end → Open each threshold (now (difference .entry)) (now (zeros .entry)) r) ⌝ }
 {
     let mut j = from;
-    while j < end {
-        let n = (zeros[j] as usize) + (symbols::equal(0, difference[j]) as usize);
-        if n + n + (threshold as usize) <= each {
+    while j + 1 < end {
+        if is_open(each, threshold, difference[j], zeros[j]) {
             return j;
         }
-        j += 1;
+        if is_open(each, threshold, difference[j + 1], zeros[j + 1]) {
+            return j + 1;
+        }
+        j += 2;
     }
-    j
+    if j < end {
+        if is_open(each, threshold, difference[j], zeros[j]) {
+            return j;
+        }
+    }
+    end
 }
 
 // The first place of a branch, from a symbol on, that the zeros do not settle, or the one after its last symbol: the visits to those

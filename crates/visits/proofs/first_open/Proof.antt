@@ -1,7 +1,8 @@
 -- `first_open`: all symbols passed are settled.
-use Prim.Native.Nat.{_-_}
+use mathlib.Core.Path.{_≡_, subst}
+use Prim.Native.Nat.{ℕ, _+_, _-_, _<_, _≤_}
 use native.Mathlib.Omega.{arith}
-use Rattle.visits.specs.Settled.{FirstOpen, open-none, open-more}
+use Rattle.visits.specs.Settled.{FirstOpen, open-none, open-more, open-yes, open-no}
 use Rattle.visits.proofs.first_open.Statement.{statement}
 use Rattle.visits.proofs.first_open.Tie as tie
 
@@ -14,32 +15,48 @@ abbrev μ-loop : tie.MeasureT-loop
 loop-holds : tie.Need-loop-holds Inv-loop μ-loop
 loop-holds c = open-none (c .before .before .pre .0)
 
-shared-slice-read-n : tie.Need-shared-slice-read-n Inv-loop μ-loop
-shared-slice-read-n c = omega (arith, c .before .before .before .before .before .pre .2)
+add-loop : tie.Need-add-loop Inv-loop μ-loop
+add-loop c = let b = c .before .before .before in omega (arith, c .loop .inv .high, b .pre .1, b .good .1 .1 .0 .1)
 
-cast-n : tie.Need-cast-n Inv-loop μ-loop
-cast-n c = omega (arith, c .shared-slice-known3 .given (c .before .before .loop .j))
+shared-slice-read-is-open : tie.Need-shared-slice-read-is-open Inv-loop μ-loop
+shared-slice-read-is-open c = omega (arith, c .before .before .before .before .before .pre .1)
 
-shared-slice-read-equal : tie.Need-shared-slice-read-equal Inv-loop μ-loop
-shared-slice-read-equal c = omega (arith, c .before .before .before .before .before .before .pre .1)
+shared-slice-read-is-open-2 : tie.Need-shared-slice-read-is-open-2 Inv-loop μ-loop
+shared-slice-read-is-open-2 c = omega (arith, c .before .before .before .before .before .before .pre .2)
 
-equal-requires : tie.Need-equal-requires Inv-loop μ-loop
-equal-requires c κs = tt
-
-cast-n-2 : tie.Need-cast-n-2 Inv-loop μ-loop
-cast-n-2 c = omega (arith, c .equal .ensures .1)
-
-add-n : tie.Need-add-n Inv-loop μ-loop
-add-n c = omega (arith, c .equal .ensures .1, c .before .before .shared-slice-known3 .given (c .before .before .before .before .loop .j))
-
-add-if1 : tie.Need-add-if1 Inv-loop μ-loop
-add-if1 c = omega (arith, c .equal .ensures .1, c .before .before .shared-slice-known3 .given (c .before .before .before .before .loop .j))
-
-add-if1-2 : tie.Need-add-if1-2 Inv-loop μ-loop
-add-if1-2 c = omega (arith, c .equal .ensures .1, c .before .before .shared-slice-known3 .given (c .before .before .before .before .loop .j))
+is-open-requires : tie.Need-is-open-requires Inv-loop μ-loop
+is-open-requires c κs = tt
 
 returns : tie.Need-returns Inv-loop μ-loop
-returns c = (c .before .before .before .before .before .loop .inv, λ h. omega (arith, c .before .equal .ensures .0, c .if1 .taken))
+returns c = (c .before .before .before .before .before .loop .inv, λ h. open-yes _ _ _ (c .before .is-open .ensures) (c .if1 .taken))
+
+-- one symbol is passed
+passed : (c : tie.Else1 Inv-loop μ-loop)
+    → let l = c .before .before .before .before .before in
+    let a = l .before .before .before .args in
+    FirstOpen (a .each) (a .threshold) (a .difference .now) (a .zeros .now) (a .from) (a .end) (l .loop .j + 1)
+passed c = open-more (c .before .before .before .before .before .loop .inv) (omega arith) (open-no _ _ _ (c .before .is-open .ensures) (c .if1 .left))
+
+add-is-open : tie.Need-add-is-open Inv-loop μ-loop
+add-is-open c = omega arith
+
+shared-slice-read-is-open-3 : tie.Need-shared-slice-read-is-open-3 Inv-loop μ-loop
+shared-slice-read-is-open-3 c = omega (arith, c .before .before .before .before .before .before .before .before .before .pre .1)
+
+add-is-open-2 : tie.Need-add-is-open-2 Inv-loop μ-loop
+add-is-open-2 c = omega arith
+
+shared-slice-read-is-open-4 : tie.Need-shared-slice-read-is-open-4 Inv-loop μ-loop
+shared-slice-read-is-open-4 c = omega (arith, c .before .before .before .before .before .before .before .before .before .before .pre .2)
+
+is-open-requires-2 : tie.Need-is-open-requires-2 Inv-loop μ-loop
+is-open-requires-2 c κs = tt
+
+add-result : tie.Need-add-result Inv-loop μ-loop
+add-result c = omega arith
+
+returns-2 : tie.Need-returns-2 Inv-loop μ-loop
+returns-2 c = (passed (c .before .before .before .before), λ h. open-yes _ _ _ (c .before .is-open2 .ensures) (c .if2 .taken))
 
 add-j : tie.Need-add-j Inv-loop μ-loop
 add-j c = omega arith
@@ -48,10 +65,43 @@ loop-less : tie.Need-loop-less Inv-loop μ-loop
 loop-less c = omega arith
 
 loop-again : tie.Need-loop-again Inv-loop μ-loop
-loop-again c = open-more (c .before .before .before .before .before .loop .inv) (omega arith) (omega (arith, c .before .equal .ensures .0, c .if1 .left))
+loop-again c =
+    let l = c .before .before .before .before .before .before .before .before .before in
+    let a = l .before .before .before .args in
+    subst (λ (n : ℕ). FirstOpen (a .each) (a .threshold) (a .difference .now) (a .zeros .now) (a .from) (a .end) n)
+    (let z : l .loop .j + 1 + 1 ≡ l .loop .j + 2 = omega arith in z)
+    (open-more (passed (c .before .before .before .before)) (omega arith) (open-no _ _ _ (c .before .is-open2 .ensures) (c .if2 .left)))
 
-returns-2 : tie.Need-returns-2 Inv-loop μ-loop
-returns-2 c = (c .before .loop .inv, λ h. absurd (omega arith))
+shared-slice-read-is-open-5 : tie.Need-shared-slice-read-is-open-5 Inv-loop μ-loop
+shared-slice-read-is-open-5 c = omega (arith, c .before .before .before .before .before .before .pre .1)
+
+shared-slice-read-is-open-6 : tie.Need-shared-slice-read-is-open-6 Inv-loop μ-loop
+shared-slice-read-is-open-6 c = omega (arith, c .before .before .before .before .before .before .before .pre .2)
+
+is-open-requires-3 : tie.Need-is-open-requires-3 Inv-loop μ-loop
+is-open-requires-3 c κs = tt
+
+returns-3 : tie.Need-returns-3 Inv-loop μ-loop
+returns-3 c = (c .before .before .before .before .before .before .loop .inv, λ h. open-yes _ _ _ (c .before .is-open3 .ensures) (c .if4 .taken))
+
+returns-4 : tie.Need-returns-4 Inv-loop μ-loop
+returns-4 c =
+    let l = c .before .before .before .before .before .before in
+    let a = l .before .before .before .args in (
+      subst (λ (n : ℕ). FirstOpen (a .each) (a .threshold) (a .difference .now) (a .zeros .now) (a .from) (a .end) n)
+          (let z : l .loop .j + 1 ≡ a .end = omega arith in z)
+          (open-more (l .loop .inv) (omega arith) (open-no _ _ _ (c .before .is-open3 .ensures) (c .if4 .left))),
+      (λ h. absurd (omega arith)),
+    )
+
+returns-5 : tie.Need-returns-5 Inv-loop μ-loop
+returns-5 c =
+    let l = c .before .before in
+    let a = l .before .before .before .args in (
+      subst (λ (n : ℕ). FirstOpen (a .each) (a .threshold) (a .difference .now) (a .zeros .now) (a .from) (a .end) n)
+          (let z : l .loop .j ≡ a .end = omega (arith, l .loop .inv .high) in z) (l .loop .inv),
+      (λ h. absurd (omega arith)),
+    )
 
 pub first-open-spec : {M : Type 1} → statement M
 first-open-spec =
@@ -60,16 +110,24 @@ first-open-spec =
     Inv-loop
     μ-loop
     loop-holds
-    shared-slice-read-n
-    cast-n
-    shared-slice-read-equal
-    equal-requires
-    cast-n-2
-    add-n
-    add-if1
-    add-if1-2
+    add-loop
+    shared-slice-read-is-open
+    shared-slice-read-is-open-2
+    is-open-requires
     returns
+    add-is-open
+    shared-slice-read-is-open-3
+    add-is-open-2
+    shared-slice-read-is-open-4
+    is-open-requires-2
+    add-result
+    returns-2
     add-j
     loop-less
     loop-again
-    returns-2)
+    shared-slice-read-is-open-5
+    shared-slice-read-is-open-6
+    is-open-requires-3
+    returns-3
+    returns-4
+    returns-5)
