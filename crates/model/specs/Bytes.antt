@@ -8,8 +8,9 @@ use lib.IntN.{ℤ, pos, negsuc}
 use lib.ListN.{length, getD}
 use Rattle.model.specs.Symbols.{choose, tabulate}
 use Rattle.model.specs.Code.{Code, dataCount}
+use Rattle.model.specs.Outer.{outerState, outerCounts}
 use Rattle.model.specs.Decoder.{State, Counts, decodedState, decodedCounts, marginsOf}
-use Rattle.model.specs.Calls.{Outcome, outcome, Decoded, WithCounters, countersFit, Passed, stateFits, decodeFits, decodeAnswer, passAnswer, passedState, passedChanges, Explained, explained, explainAnswer}
+use Rattle.model.specs.Calls.{Outcome, outcome, Decoded, WithCounters, countersFit, Passed, stateFits, decodeFits, decodeAnswer, decodeOuterAnswer, passAnswer, passedState, passedChanges, Explained, explained, explainAnswer}
 
 -- the two-byte number i of a byte string
 abbrev pub positionAt : List ℕ → ℕ → ℕ
@@ -51,6 +52,14 @@ cDecodeOutcome c others page thresholds lent margins counts =
 unfoldable pub cDecodeCountersOutcome : Code → List ℕ → List ℕ → State → List ℕ → List ℕ → List ℕ → WithCounters (Outcome (Decoded (List ℕ) (List ℕ)))
 cDecodeCountersOutcome c page thresholds lent margins counters counts =
     record { given = cDecodeOutcome c (countersFit counters) page thresholds lent margins counts; counters = counters }
+
+-- the C form of decode in blocks of L (N8)
+unfoldable pub cDecodeOuterOutcome : Code → ℕ → List ℕ → List ℕ → State → List ℕ → List ℕ → Outcome (Decoded (List ℕ) (List ℕ))
+cDecodeOuterOutcome c L page thresholds lent margins counts =
+    let st = outerState c L thresholds page in
+    outcome (decodeOuterAnswer c L ((eqb (length margins) (4 * dataCount c) && eqb (length counts) 16) && decodeFits c page lent) page thresholds)
+    (record { state = st; margins = marginBytes (marginsOf c st); counts = bytesOf (outerCounts c L thresholds page) })
+    (record { state = lent; margins = margins; counts = counts })
 
 -- the C form of a pass writes its changes into 4 lent bytes (N5)
 unfoldable pub cPassOutcome : Code → ℕ → State → List ℕ → Outcome (Passed (List ℕ))

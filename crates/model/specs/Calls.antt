@@ -1,13 +1,14 @@
 -- The calls: the number that each returns, and what it leaves in every lent buffer, from any values and any lists.
 use mathlib.Core.Bool.{Bool, true, not, _&&_}
 use mathlib.Core.List.{List, [], _∷_, _++_}
-use Prim.Native.Nat.{ℕ, suc, _+_, _*_}
+use Prim.Native.Nat.{ℕ, suc, _+_, _*_, _%_}
 use lib.Dec.{eqb, ltb, leb}
 use lib.IntN.{ℤ}
 use lib.ListN.{length}
 use Rattle.model.specs.Symbols.{choose}
 use Rattle.model.specs.Code.{Code, dataCount, checkCount, pageLength, checksEach, checksOf, branchAt, codeWord, syndrome, everyBelow, selfOrthogonal}
 use Rattle.model.specs.Vote.{leader, leadCount, nextCount, ground, equalBits}
+use Rattle.model.specs.Outer.{outerWord, outerState, outerCounts}
 use Rattle.model.specs.Decoder.{State, Visit, estimates, after, changeCount, pass, passes, dataSymbols, opened, Counts, decodedState, decodedCounts, marginsOf}
 
 -- ---- tests
@@ -73,6 +74,10 @@ thresholdTests thresholds = test 8 (not (within 1 64 (length thresholds))) ∷ t
 unfoldable pub thresholdTest : ℕ → List Test
 thresholdTest threshold = test 9 (not (ltb threshold 33)) ∷ []
 
+-- "12, after 9: L below 2, or L doesn't divide the number of data symbols" (N8)
+unfoldable pub blockTest : Code → ℕ → List Test
+blockTest c L = test 12 (not (leb 2 L && eqb (dataCount c % L) 0)) ∷ []
+
 -- ---- the lengths that a call needs: "Data, result, D and margins have b times k places, and a page has (b + 1) times k"; S has k
 
 -- encode reads data and lends a page
@@ -101,15 +106,28 @@ countersFit counters = eqb (length counters) 256 && allBelow 1 counters
 unfoldable pub tableAnswer : Code → ℕ
 tableAnswer c = firstThatApplies (tableTests c)
 
+abbrev pub encodeTests : Code → List ℕ → ℕ → List Test
+encodeTests c u pageLen = pageTests c (encodeFits c (length u) pageLen) u
+
 unfoldable pub encodeAnswer : Code → List ℕ → ℕ → ℕ
-encodeAnswer c u pageLen = firstThatApplies (pageTests c (encodeFits c (length u) pageLen) u)
+encodeAnswer c u pageLen = firstThatApplies (encodeTests c u pageLen)
+
+-- encode and decode in blocks of L have their tests, and then 12 (N8)
+unfoldable pub encodeOuterAnswer : Code → ℕ → List ℕ → ℕ → ℕ
+encodeOuterAnswer c L u pageLen = firstThatApplies (encodeTests c u pageLen ++ blockTest c L)
 
 unfoldable pub syndromeAnswer : Code → List ℕ → ℕ → ℕ
 syndromeAnswer c page syndromeLen = firstThatApplies (pageTests c (syndromeFits c (length page) syndromeLen) page)
 
 -- decode also reads thresholds
+abbrev pub decodeTests : Code → Bool → List ℕ → List ℕ → List Test
+decodeTests c fits page thresholds = pageTests c fits page ++ thresholdTests thresholds
+
 unfoldable pub decodeAnswer : Code → Bool → List ℕ → List ℕ → ℕ
-decodeAnswer c fits page thresholds = firstThatApplies (pageTests c fits page ++ thresholdTests thresholds)
+decodeAnswer c fits page thresholds = firstThatApplies (decodeTests c fits page thresholds)
+
+unfoldable pub decodeOuterAnswer : Code → ℕ → Bool → List ℕ → List ℕ → ℕ
+decodeOuterAnswer c L fits page thresholds = firstThatApplies (decodeTests c fits page thresholds ++ blockTest c L)
 
 -- open reads a page and lends the result, S and D: decode's tests without those of thresholds (N5)
 unfoldable pub openAnswer : Code → List ℕ → State → ℕ
@@ -145,6 +163,10 @@ outcome n done lent = record { number = n; left = choose (eqb n 0) done lent }
 unfoldable pub encodeOutcome : Code → List ℕ → List ℕ → Outcome (List ℕ)
 encodeOutcome c u page = outcome (encodeAnswer c u (length page)) (codeWord c u) page
 
+-- in blocks of L: "the page gets there the symbol that makes the block sum to 0, which the checks then count" (N8)
+unfoldable pub encodeOuterOutcome : Code → ℕ → List ℕ → List ℕ → Outcome (List ℕ)
+encodeOuterOutcome c L u page = outcome (encodeOuterAnswer c L u (length page)) (codeWord c (outerWord c L u)) page
+
 -- "The syndrome call writes S."
 unfoldable pub syndromeOutcome : Code → List ℕ → List ℕ → Outcome (List ℕ)
 syndromeOutcome c page s = outcome (syndromeAnswer c page (length s)) (syndrome c page) s
@@ -166,6 +188,14 @@ decodeOutcome c others page thresholds lent margins =
     let st = decodedState c thresholds page in
     outcome (decodeAnswer c ((others && eqb (length margins) (dataCount c)) && decodeFits c page lent) page thresholds)
     (record { state = st; margins = marginsOf c st; counts = decodedCounts c thresholds page })
+    (record { state = lent; margins = margins; counts = noCounts })
+
+-- in blocks of L, after the outer steps; so are the margins (N8)
+unfoldable pub decodeOuterOutcome : Code → ℕ → List ℕ → List ℕ → State → List ℤ → Outcome (Decoded (List ℤ) Counts)
+decodeOuterOutcome c L page thresholds lent margins =
+    let st = outerState c L thresholds page in
+    outcome (decodeOuterAnswer c L (eqb (length margins) (dataCount c) && decodeFits c page lent) page thresholds)
+    (record { state = st; margins = marginsOf c st; counts = outerCounts c L thresholds page })
     (record { state = lent; margins = margins; counts = noCounts })
 
 -- what decode with counters gives, and what the counters hold afterwards

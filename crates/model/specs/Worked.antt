@@ -12,7 +12,8 @@ use Rattle.model.specs.Symbols.{sub, same, differ, count, distance, sumO
 use Rattle.model.specs.Code.{Code, codeOf, dataCount, checkCount, pageLength, branchAt, checksBy, checksOf, checkSumBy, checkSymbol, checkSymbols, codeWord, syndrome, shared, everyBelow, selfOrthogonal, differencesFrom, differencesBy, differences, allDifferent}
 use Rattle.model.specs.Vote.{firstBy, otherBy, leader, leadCount, nextCount, Votes, votes, votesBy, counted, votesRead, margin, ground, equalBits}
 use Rattle.model.specs.Decoder.{stateBy, State, Counts, estimates, isChange, change, changes, visit, after, changeCount, pass, passes, allows, thresholdsRun, opened, passesOf, run, distanceTo, decodedState, decodedCounts, marginsOf}
-use Rattle.model.specs.Calls.{firstThatApplies, within, positionsFit, allBelow, sizeTests, tableTests, pageTests, thresholdTests, thresholdTest, tableAnswer, encodeAnswer, decodeAnswer, openAnswer, passTests, passAnswer, explainAnswer, Outcome, outcome, encodeOutcome, Decoded, decodeOutcome, WithCounters, countersFit, decodeCountersOutcome, openOutcome, Passed, passOutcome, PassCall, fitting, afterCalls, callChanges, notRefused, Explained, explained, explainOutcome}
+use Rattle.model.specs.Outer.{partSum, outerWord, reliability, leastBelow, weakest, isStep, outerStep, outerSteps, stepCount, outerState, outerCounts}
+use Rattle.model.specs.Calls.{firstThatApplies, within, positionsFit, allBelow, sizeTests, tableTests, pageTests, thresholdTests, thresholdTest, tableAnswer, encodeAnswer, decodeAnswer, openAnswer, passTests, passAnswer, explainAnswer, Outcome, outcome, encodeOutcome, Decoded, decodeOutcome, WithCounters, countersFit, decodeCountersOutcome, blockTest, encodeOuterAnswer, decodeOuterAnswer, encodeOuterOutcome, decodeOuterOutcome, openOutcome, Passed, passOutcome, PassCall, fitting, afterCalls, callChanges, notRefused, Explained, explained, explainOutcome}
 use Rattle.model.specs.Demand.{VisitFalls, WithinBound, smallest, DecodeRecovers}
 
 -- A row: a call's inputs, and what it must give.
@@ -35,6 +36,9 @@ data Row : Type 0 where
   explaining : (c : Code) (others : Bool) (threshold j : ℕ) (found : State) (given : Outcome Explained) → Row
   -- decode's number, buffers, margins and counts with these counters, and the counters afterwards
   withCounters : (c : Code) (thresholds page counters : List ℕ) (given : WithCounters (Outcome (Decoded (List ℤ) Counts))) → Row
+  -- encode's and decode's in blocks of L
+  encodedOuter : (c : Code) (L : ℕ) (u : List ℕ) (given : Outcome (List ℕ)) → Row
+  decodedOuter : (c : Code) (L : ℕ) (thresholds page : List ℕ) (given : Outcome (Decoded (List ℤ) Counts)) → Row
   -- the n counters when a list of estimates is counted, and the vote read from them
   countedBy : (n : ℕ) (es : List ℕ) (counters : List ℕ) (given : Votes) → Row
   -- the vote over a list of estimates, its margin, and whether it is a change at a threshold
@@ -56,10 +60,10 @@ lentState c = stateBy (lent (dataCount c)) (lent (checkCount c)) (lent (dataCoun
 -- the row with what the definitions give for its inputs
 computed : Row → Row
 unfolding firstThatApplies within positionsFit allBelow sizeTests tableTests pageTests thresholdTests thresholdTest tableAnswer encodeAnswer decodeAnswer openAnswer passTests passAnswer explainAnswer
-    outcome encodeOutcome decodeOutcome countersFit decodeCountersOutcome openOutcome passOutcome afterCalls callChanges notRefused explained explainOutcome ground equalBits
+    outcome encodeOutcome decodeOutcome countersFit decodeCountersOutcome blockTest encodeOuterAnswer decodeOuterAnswer encodeOuterOutcome decodeOuterOutcome openOutcome passOutcome afterCalls callChanges notRefused explained explainOutcome ground equalBits
     branchAt checksBy checksOf checkSumBy checkSymbol checkSymbols codeWord syndrome shared everyBelow selfOrthogonal differencesFrom differencesBy allDifferent
     firstBy otherBy leader leadCount nextCount estimates isChange change changes visit after changeCount pass passes allows thresholdsRun opened passesOf run distanceTo decodedState decodedCounts margin marginsOf
-    counted votesBy votesRead
+    counted votesBy votesRead partSum outerWord reliability leastBelow weakest isStep outerStep outerSteps stepCount outerState outerCounts
     sub same differ count distance sumOver sumBelow joinBelow tabulate symbolsAt subtractAt times
 computed (table c a d) = table c (tableAnswer c) (allDifferent (differences c))
 computed (encoded c u g) = encoded c u (encodeOutcome c u (lent (pageLength c)))
@@ -72,6 +76,8 @@ computed (called-in-turn c ps st l n m) = called-in-turn c ps st (afterCalls c p
 computed (explaining c o t j st g) = explaining c o t j st (explainOutcome c o t j st)
 computed (withCounters c ts page counters g) =
     withCounters c ts page counters (decodeCountersOutcome c page ts (lentState c) (map pos (lent (dataCount c))) counters)
+computed (encodedOuter c L u g) = encodedOuter c L u (encodeOuterOutcome c L u (lent (pageLength c)))
+computed (decodedOuter c L ts page g) = decodedOuter c L ts page (decodeOuterOutcome c L page ts (lentState c) (map pos (lent (dataCount c))))
 computed (countedBy n es counters g) = countedBy n es (counted n es) (votesRead (counted n es) es)
 computed (voted es t g m b) = voted es t (votes es) (margin es) (isChange t es)
 
@@ -172,10 +178,25 @@ refusedA n = record {
   };
 }
 
+-- k = 4, positions 0, 1, q = 5
+codeB : Code
+codeB = oneBranch 5 4 (0 ∷ 1 ∷ [])
+
+refusedB : ℕ → Outcome (Decoded (List ℤ) Counts)
+unfolding codeB times
+refusedB n = record {
+  number = n;
+  left = record {
+    state = lentState codeB;
+    margins = map pos (lent 4);
+    counts = record { passes = 0; changes = 0; start = 0; end = 0 };
+  };
+}
+
 -- Rows that pin misreadings: case 14 tells a vote by absolute majority from the steps and pins the tie; a page of three checks tells votes
 -- taken from the syndrome as it was at the start of the pass.
 misreadings : List Row
-unfolding codeA twoRuns accepted found made told refusedA openedSix passedSix vote times tabulate
+unfolding codeA codeB twoRuns accepted found made told refusedA refusedB openedSix passedSix vote times tabulate
 misreadings =
     -- 14
     voted (2 ∷ 2 ∷ 1 ∷ 1 ∷ 0 ∷ []) 0 (vote 1 2 2 1) (negsuc 0) false
@@ -245,6 +266,30 @@ misreadings =
     ∷ withCounters codeA [] (7 ∷ zeros 25) (zeros 255 ++ (1 ∷ [])) (record { given = refusedA 6; counters = zeros 255 ++ (1 ∷ []) })
     ∷ withCounters codeA [] (7 ∷ zeros 25) (zeros 255) (record { given = refusedA 6; counters = zeros 255 })
     ∷ withCounters codeA [] (7 ∷ zeros 25) (zeros 256) (record { given = refusedA 8; counters = zeros 256 })
+    -- N8, blocks of 2: the page gets 4 and 2 at the last places, whatever was lent there, if it is below q; 12 where 3 or 0 do not divide 4, after 7
+    ∷ encodedOuter codeB 2 (1 ∷ 2 ∷ 3 ∷ 4 ∷ []) (accepted (1 ∷ 4 ∷ 3 ∷ 2 ∷ 3 ∷ 0 ∷ 2 ∷ 0 ∷ []))
+    ∷ encodedOuter codeB 2 (1 ∷ 5 ∷ 3 ∷ 4 ∷ []) (record { number = 7; left = lent 8 })
+    ∷ encodedOuter codeB 3 (1 ∷ 5 ∷ 3 ∷ 4 ∷ []) (record { number = 7; left = lent 8 })
+    ∷ encodedOuter codeB 3 (1 ∷ 2 ∷ 3 ∷ 4 ∷ []) (record { number = 12; left = lent 8 })
+    ∷ encodedOuter codeB 1 (1 ∷ 2 ∷ 3 ∷ 4 ∷ []) (record { number = 12; left = lent 8 })
+    ∷ encodedOuter codeB 0 (1 ∷ 2 ∷ 3 ∷ 4 ∷ []) (record { number = 12; left = lent 8 })
+    -- two wrong checks, beyond the bound: the pass makes symbol 0 wrong, 3, at distance 1; block 0 sums to 3, reliability 1 is below 3, and the step
+    -- makes it right again, at distance 1 + 1
+    ∷ decodedOuter codeB 2 (0 ∷ []) (zeros 4 ++ (3 ∷ 3 ∷ 0 ∷ 0 ∷ [])) (found (zeros 4) (2 ∷ 2 ∷ 0 ∷ 0 ∷ []) (zeros 4) (negsuc 0 ∷ map pos (1 ∷ 3 ∷ 1 ∷ [])) 1 2 2 2)
+    -- symbols 1 and 2 wrong: block 0's last symbol is the least reliable, so no step; block 1 is made right by a step of reliability 0
+    ∷ decodedOuter codeB 2 (0 ∷ []) (0 ∷ 3 ∷ 3 ∷ 0 ∷ zeros 4)
+    (found (0 ∷ 3 ∷ 0 ∷ 0 ∷ []) (0 ∷ 3 ∷ 3 ∷ 0 ∷ []) (0 ∷ 0 ∷ 2 ∷ 0 ∷ []) (pos 1 ∷ negsuc 0 ∷ pos 0 ∷ pos 3 ∷ []) 1 1 3 3)
+    -- one block of 7 in which symbols 0, 4 and 5 have the least reliability: the earliest is changed
+    ∷ decodedOuter (oneBranch 5 7 (0 ∷ 1 ∷ 3 ∷ [])) 7 (0 ∷ []) (4 ∷ zeros 9 ++ (4 ∷ 0 ∷ 1 ∷ 0 ∷ []))
+    (found (zeros 7) (0 ∷ 0 ∷ 0 ∷ 1 ∷ 0 ∷ 4 ∷ 0 ∷ []) (1 ∷ zeros 6) (map pos (0 ∷ 4 ∷ 1 ∷ 2 ∷ 2 ∷ 2 ∷ 4 ∷ [])) 1 1 3 3)
+    -- block 0's step alters the syndrome so that block 1, which would have had a step, has none
+    ∷ decodedOuter codeB 2 (0 ∷ []) (0 ∷ 0 ∷ 0 ∷ 4 ∷ 0 ∷ 1 ∷ 3 ∷ 0 ∷ [])
+    (found (0 ∷ 0 ∷ 0 ∷ 4 ∷ []) (4 ∷ 4 ∷ 2 ∷ 4 ∷ []) (zeros 4) (negsuc 0 ∷ pos 0 ∷ pos 0 ∷ negsuc 0 ∷ []) 1 2 4 4)
+    -- a code word whose blocks break the rule: all reliabilities are J + 1, so no step
+    ∷ decodedOuter codeB 2 (0 ∷ []) (1 ∷ 2 ∷ 3 ∷ 4 ∷ 0 ∷ 3 ∷ 0 ∷ 2 ∷ []) (found (1 ∷ 2 ∷ 3 ∷ 4 ∷ []) (zeros 4) (zeros 4) (map pos (times 4 3)) 1 0 0 0)
+    -- 12, after 9
+    ∷ decodedOuter codeB 1 (0 ∷ []) (zeros 8) (refusedB 12)
+    ∷ decodedOuter codeB 1 (33 ∷ []) (zeros 8) (refusedB 9)
     ∷ []
 
 told-apart : map computed misreadings ≡ misreadings

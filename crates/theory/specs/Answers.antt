@@ -3,16 +3,18 @@ use mathlib.Core.Path.{_≡_, refl, ap, sym, _∙_, subst}
 use mathlib.Core.Logic.{_≢_}
 use mathlib.Core.Bool.{Bool, true, false, not, _&&_}
 use mathlib.Core.List.{List, [], _∷_, _++_, append-assoc}
-use Prim.Native.Nat.{ℕ, zero, suc, _*_, _≤_, _<_}
+use Prim.Native.Nat.{ℕ, zero, suc, _*_, _%_, _≤_, _<_}
+use native.Mathlib.Nat.{div-add-mod'}
 use native.Mathlib.Decide.{ℕ-discrete}
 use native.Mathlib.Omega.{arith}
 use lib.Dec.{T, eqb, ltb, leb, eqb→eq, ltb→lt, lt→ltb, leb→le, le→leb}
 use lib.ListN.{length, take}
 use lib.Seq.{take-at}
 use borrow.Author.Tests.{lt-leb, le-ltb}
-use Rattle.model.specs.Calls.{Test, test, firstThatApplies, within, positionsFit, allBelow, branchesFit, runsFit, sizeTests, tableFits, tableTests, pageTests, thresholdTests, thresholdTest, stateFits, decodeFits, tableAnswer, encodeAnswer, decodeAnswer, openAnswer, stateSymbols, passTests, passAnswer, explainAnswer}
+use Rattle.model.specs.Calls.{Test, test, firstThatApplies, within, positionsFit, allBelow, branchesFit, runsFit, sizeTests, tableFits, tableTests, pageTests, thresholdTests, thresholdTest, blockTest, encodeFits, stateFits, decodeFits, tableAnswer, encodeTests, encodeAnswer, encodeOuterAnswer, decodeTests, decodeAnswer, decodeOuterAnswer, openAnswer, stateSymbols, passTests, passAnswer, explainAnswer}
 use Rattle.model.specs.Code.{Code, dataCount, checkCount, pageLength, checksEach, branchAt, checkSymbols, codeWord, dataOf, selfOrthogonal}
 use Rattle.model.specs.Decoder.{State}
+use Rattle.model.specs.Outer.{blockCount}
 use Rattle.model.specs.Demand.{Encodes}
 use Rattle.model.specs.Limits.{SizeLimits, Limits}
 use Rattle.model.specs.Symbols.{choose, Below}
@@ -234,16 +236,53 @@ page-bytes c fits input f = record { q-low = f .usable .q-low; q-high = f .limit
 
 -- ---- encode
 
--- the data that encode takes are symbols below q, and they are the data symbols of the page that it writes
-pub encoded-symbols : (c : Code) (u sent : List ℕ) → Encodes c u sent → SymbolsBelow (c .q) (dataCount c) u
+-- the data that encode takes are symbols below q, whatever the length of the page, and they are the data symbols of the page that it writes
+pub encode-symbols : (c : Code) (u : List ℕ) (n : ℕ) → encodeAnswer c u n ≡ 0 → SymbolsBelow (c .q) (dataCount c) u
 unfolding encodeAnswer
-encoded-symbols c u sent e =
-    let f = page-taken c _ u (e .0) in
+encode-symbols c u n e =
+    let f = page-taken c _ u e in
     record { len = eqb-true (length u) (dataCount c) (and-true (eqb (length u) (dataCount c)) _ (f .buffers) .0); low = f .symbols }
+
+pub encoded-symbols : (c : Code) (u sent : List ℕ) → Encodes c u sent → SymbolsBelow (c .q) (dataCount c) u
+encoded-symbols c u sent e = encode-symbols c u (pageLength c) (e .0)
 
 pub encoded-data : (c : Code) (u sent : List ℕ) → Encodes c u sent → dataOf c sent ≡ u
 unfolding codeWord
 encoded-data c u sent e = ap (λ (p : List ℕ). take (dataCount c) p) (e .1) ∙ take-at u (checkSymbols c u) (dataCount c) (encoded-symbols c u sent e .len)
+
+-- blocks of L that fit the data symbols
+pub record BlockFits (c : Code) (L : ℕ) : Type 0 where
+  pub low : 2 ≤ L
+  pub divides : blockCount c L * L ≡ dataCount c
+
+pub block-taken : (c : Code) (L : ℕ) → firstThatApplies (blockTest c L) ≡ 0 → BlockFits c L
+unfolding blockTest
+block-taken c L e =
+    let b = and-true (leb 2 L) (eqb (dataCount c % L) 0) (taken-by 11 (leb 2 L && eqb (dataCount c % L) 0) [] e .0) in
+    let z : dataCount c % L ≡ 0 = eqb-true (dataCount c % L) 0 (b .1) in
+    record { low = leb→le 2 L (subst T (sym (b .0)) tt); divides = omega (arith, div-add-mod' (dataCount c) L) }
+
+-- encode in blocks of L: its number is encode's where that is not 0, else the test of L gives it
+pub encode-outer-refused : (c : Code) (L : ℕ) (u : List ℕ) (n : ℕ) → encodeAnswer c u n ≢ 0 → encodeOuterAnswer c L u n ≡ encodeAnswer c u n
+unfolding encodeAnswer encodeOuterAnswer
+encode-outer-refused c L u n z = refused-first (encodeTests c u n) (blockTest c L) z
+
+pub encode-outer-passed : (c : Code) (L : ℕ) (u : List ℕ) (n : ℕ) → encodeAnswer c u n ≡ 0 → encodeOuterAnswer c L u n ≡ firstThatApplies (blockTest c L)
+unfolding encodeAnswer encodeOuterAnswer pageTests tableTests sizeTests
+encode-outer-passed c L u n z = passed-first (encodeTests c u n) (blockTest c L) refl z
+
+pub encode-outer-taken : (c : Code) (L : ℕ) (u : List ℕ) (n : ℕ) → encodeOuterAnswer c L u n ≡ 0 → (encodeAnswer c u n ≡ 0) × BlockFits c L
+unfolding encodeAnswer encodeOuterAnswer pageTests tableTests sizeTests
+encode-outer-taken c L u n e = let t = taken-first (encodeTests c u n) (blockTest c L) refl e in (t .0, block-taken c L (t .1))
+
+-- encode takes any data symbols of the right number, where it takes some
+pub encode-takes : (c : Code) (u w : List ℕ) (n : ℕ) → encodeAnswer c u n ≡ 0 → SymbolsBelow (c .q) (dataCount c) w → encodeAnswer c w (pageLength c) ≡ 0
+unfolding encodeAnswer pageTests tableAnswer tableTests sizeTests
+encode-takes c u w n e s =
+    let t = taken-first (tableTests c) (test 6 (not (encodeFits c (length u) n)) ∷ test 7 (not (allBelow (c .q) u)) ∷ []) refl e in
+    page-passed c (encodeFits c (length w) (pageLength c)) w (t .0)
+    ∙ passed-by 6 (encodeFits c (length w) (pageLength c)) _ (rw (eqb-yes (length w) (dataCount c) (s .len), eqb-yes (pageLength c) (pageLength c) refl) refl)
+    ∙ passed-by 7 (allBelow (c .q) w) [] (below-all (c .q) w (s .low)) ∙ nothing-applies
 
 -- ---- decode
 
@@ -316,6 +355,22 @@ decode-taken c others page ts lent e =
       few = w .1;
       small = taken-by 8 (allBelow 33 ts) [] (some .1) .0;
     }
+
+-- decode in blocks of L: its number is decode's where that is not 0, else the test of L gives it
+pub decode-outer-refused : (c : Code) (L : ℕ) (fits : Bool) (page thresholds : List ℕ) → decodeAnswer c fits page thresholds ≢ 0
+    → decodeOuterAnswer c L fits page thresholds ≡ decodeAnswer c fits page thresholds
+unfolding decodeAnswer decodeOuterAnswer
+decode-outer-refused c L fits page ts z = refused-first (decodeTests c fits page ts) (blockTest c L) z
+
+pub decode-outer-passed : (c : Code) (L : ℕ) (fits : Bool) (page thresholds : List ℕ) → decodeAnswer c fits page thresholds ≡ 0
+    → decodeOuterAnswer c L fits page thresholds ≡ firstThatApplies (blockTest c L)
+unfolding decodeAnswer decodeOuterAnswer pageTests tableTests sizeTests thresholdTests
+decode-outer-passed c L fits page ts z = passed-first (decodeTests c fits page ts) (blockTest c L) refl z
+
+pub decode-outer-taken : (c : Code) (L : ℕ) (fits : Bool) (page thresholds : List ℕ) → decodeOuterAnswer c L fits page thresholds ≡ 0
+    → (decodeAnswer c fits page thresholds ≡ 0) × BlockFits c L
+unfolding decodeAnswer decodeOuterAnswer pageTests tableTests sizeTests thresholdTests
+decode-outer-taken c L fits page ts e = let t = taken-first (decodeTests c fits page ts) (blockTest c L) refl e in (t .0, block-taken c L (t .1))
 
 -- where decode takes its inputs, so does open
 pub decode-opens : (c : Code) (others : Bool) (page thresholds : List ℕ) (lent : State) → decodeAnswer c (others && decodeFits c page lent) page thresholds ≡ 0

@@ -1,22 +1,27 @@
 -- Decoding a page by a code: demand 3 of any visits from an opened page, and what holds at every moment of them.
 use mathlib.Core.Path.{_≡_, ap, sym, _∙_, subst}
 use mathlib.Core.List.{List, []}
-use Prim.Native.Nat.{ℕ, _≤_, _<_}
+use Prim.Native.Nat.{ℕ, _+_, _≤_, _<_}
 use native.Mathlib.Omega.{arith}
 use lib.ListN.{take, drop, take-append-drop}
 use Rattle.model.specs.Code.{Code, dataCount, checkCount, pageLength, checksEach, checksOf}
-use Rattle.model.specs.Decoder.{State, Visit, after, changeCount, pass, passes, none, dataSymbols, opened, passesOf, distanceTo, stateWeight}
+use Rattle.model.specs.Decoder.{State, Visit, estimates, change, after, changeCount, pass, passes, none, dataSymbols, opened, passesOf, distanceTo, stateWeight}
 use Rattle.model.specs.Demand.{Falls, RunFalls, Recovers}
 use Rattle.model.specs.Symbols.{count, distance}
 use Rattle.theory.specs.Answers.{encoded-symbols, encoded-data}
 use Rattle.theory.specs.Codes.{Usable, code-incidence, code-word, code-opened}
 use Rattle.theory.specs.Counting.{All}
-use Rattle.theory.specs.Distance.{wordOf, Received, Tied, page-distance}
+use Rattle.theory.specs.Distance.{wordOf, Received, Tied, change-tied, page-distance}
 use Rattle.theory.specs.Falling.{InRange, after-sized, after-tied, idle-after, falls-spent}
 use Rattle.theory.specs.Page.{received, opened-sized, opened-tied, page-falls, page-recovers}
 use Rattle.theory.specs.Runs.{range-pass, range-passes, symbols-range, covered-passes}
 use Rattle.theory.specs.Schedule.{minima, idle-run}
-use Rattle.theory.specs.Steps.{SymbolsBelow, Sized}
+use Rattle.theory.specs.Steps.{SymbolsBelow, Sized, change-sized, change-weight}
+
+-- a state of a received page: D is the result minus the received data, S the code word's checks minus the received checks
+pub record OnPage (c : Code) (page : List ℕ) (st : State) : Type 0 where
+  pub sized : Sized (c .q) (dataCount c) (checkCount c) st
+  pub tied : Tied (c .q) (dataCount c) (checkCount c) (checksOf c) (take (dataCount c) page) (drop (dataCount c) page) st
 
 module _ (c : Code) (l : Usable c) (page : List ℕ) (whole : SymbolsBelow (c .q) (pageLength c) page) where
   distance-of : distanceTo c page ≡ (λ (s : State). distance (wordOf (c .q) (dataCount c) (checkCount c) (checksOf c) (s .result)) page)
@@ -46,15 +51,39 @@ module _ (c : Code) (l : Usable c) (page : List ℕ) (whole : SymbolsBelow (c .q
       let inc = code-incidence c l in
       after-tied inc code-received vs r (opened c page) code-opened-sized (rw (code-opened c (l .table) page) (opened-tied inc whole))
 
-  -- the distance is the number of nonzero symbols of S and D
+  -- the distance of a state of the page is the number of nonzero symbols of its S and D
+  pub on-distance : (st : State) → OnPage c page st → distanceTo c page st ≡ stateWeight st
+  on-distance st p =
+      rw distance-of
+      (ap (λ (w : List ℕ). distance (wordOf (c .q) (dataCount c) (checkCount c) (checksOf c) (st .result)) w) (sym (take-append-drop (dataCount c) page))
+      ∙ page-distance (c .q) (dataCount c) (checkCount c) (code-incidence c l .pos) (checksOf c) (take (dataCount c) page) (drop (dataCount c) page)
+      code-received st (p .sized) (p .tied))
+
+  -- such are those after any visits,
+  pub code-on : (vs : List Visit) → InRange (dataCount c) vs → OnPage c page (after (c .q) (checksOf c) vs (opened c page))
+  code-on vs r = record { sized = code-sized vs; tied = code-tied vs r }
+
   pub code-distance : (vs : List Visit) → InRange (dataCount c) vs → distanceTo c page (after (c .q) (checksOf c) vs (opened c page))
       ≡ stateWeight (after (c .q) (checksOf c) vs (opened c page))
-  code-distance vs r =
-      let st : State = after (c .q) (checksOf c) vs (opened c page) in
-      rw distance-of
-      (ap (λ (p : List ℕ). distance (wordOf (c .q) (dataCount c) (checkCount c) (checksOf c) (st .result)) p) (sym (take-append-drop (dataCount c) page))
-      ∙ page-distance (c .q) (dataCount c) (checkCount c) (code-incidence c l .pos) (checksOf c) (take (dataCount c) page) (drop (dataCount c) page)
-      code-received st (code-sized vs) (code-tied vs r))
+  code-distance vs r = on-distance (after (c .q) (checksOf c) vs (opened c page)) (code-on vs r)
+
+  -- and after a subtraction from a data symbol and its checks: it takes the estimates equal to h off the distance, and adds the zeros
+  module _ (j h : ℕ) (hj : j < dataCount c) (hh : h < c .q) (st : State) (p : OnPage c page st) where
+    pub change-on : OnPage c page (change (c .q) (checksOf c j) j h st)
+    change-on =
+        let inc = code-incidence c l in
+        record {
+          sized = change-sized (c .q) (dataCount c) (checkCount c) (inc .pos) (checksOf c j) j h st (p .sized);
+          tied = change-tied (c .q) (dataCount c) (checkCount c) (inc .pos) (checksOf c) (take (dataCount c) page) (drop (dataCount c) page) code-received j h st (p .sized) hj hh
+              (inc .apart j hj) (inc .inside j hj) (p .tied);
+        }
+
+    pub change-distance : distanceTo c page (change (c .q) (checksOf c j) j h st) + count h (estimates (checksOf c j) j st)
+        ≡ distanceTo c page st + count 0 (estimates (checksOf c j) j st)
+    change-distance =
+        let inc = code-incidence c l in
+        rw (on-distance st p, on-distance (change (c .q) (checksOf c j) j h st) change-on)
+        (change-weight (c .q) (dataCount c) (checkCount c) (inc .pos) (checksOf c j) j h st (p .sized) hj hh (inc .apart j hj) (inc .inside j hj))
 
   -- at distance 0 no visits alter anything
   pub code-idle : distanceTo c page (opened c page) ≡ 0 → (vs : List Visit) → InRange (dataCount c) vs

@@ -23,6 +23,7 @@ pub mod PassCalls
 pub mod Explaining
 pub mod Counters
 pub mod Integers
+pub mod OuterCheck
 pub mod Margins
 pub mod Statements
 pub mod Turns

@@ -3,8 +3,8 @@ use mathlib.Core.Path.{_≡_, refl, ap, sym, _∙_, subst}
 use mathlib.Core.Logic.{_≢_, _↔_}
 use mathlib.Core.Bool.{Bool, true, false, _&&_}
 use mathlib.Core.List.{List, [], _∷_, _++_, map}
-use Prim.Native.Nat.{ℕ, suc, _+_, _/_, _%_, _^_, _≤_, _<_}
-use native.Mathlib.Nat.{one-mul}
+use Prim.Native.Nat.{ℕ, suc, _+_, _-_, _*_, _/_, _%_, _^_, _≤_, _<_}
+use native.Mathlib.Nat.{one-mul, mul-le-mul-left}
 use native.Mathlib.Omega.{arith}
 use lib.Count.{ones}
 use lib.Dec.{eqb}
@@ -12,25 +12,28 @@ use lib.IntN.{ℤ, pos, negℤ, _-ℤ_}
 use lib.ListN.{length, getD, length-map}
 use lib.Signed.{_≤ℤ_}
 use Rattle.model.specs.Bytes.{wordOf, cDecodeOutcome, cDecodeCountersOutcome, cPassOutcome}
-use Rattle.model.specs.Calls.{firstThatApplies, countersFit, stateFits, decodeFits, tableAnswer, decodeAnswer, openAnswer, passAnswer, explainAnswer, outcome, decodeOutcome, decodeCountersOutcome, openOutcome, Passed, passedState, passedChanges, passOutcome, PassCall, fitting, called, afterCalls, callChanges, notRefused, callRun}
+use Rattle.model.specs.Calls.{firstThatApplies, countersFit, stateFits, decodeFits, tableAnswer, encodeOuterAnswer, decodeAnswer, decodeOuterAnswer, openAnswer, passAnswer, explainAnswer, outcome, decodeOutcome, decodeCountersOutcome, openOutcome, Passed, passedState, passedChanges, passOutcome, PassCall, fitting, called, afterCalls, callChanges, notRefused, callRun}
 use Rattle.model.specs.Code.{Code, codeOf, dataCount, checkCount, pageLength, checksEach, checksBy, checksOf, checkSumBy, checkSymbol, checkSymbols, codeWord, dataOf, receivedChecks, SelfOrthogonal, differencesBy, differences, allDifferent}
 use Rattle.model.specs.Decoder.{State, Visit, estimates, change, changes, visit, after, changeCount, passes, dataSymbols, opened, passesOf, run, distanceTo, Counts, decodedState, decodedCounts, marginsOf, pass, isIdle, none, thresholdsRun, firstSmaller, stateWeight}
-use Rattle.model.specs.Demand.{VisitFalls, Falls, RunFalls, DecodeFalls, PassFalls, Recovers, DecodeRecovers, smallest}
+use Rattle.model.specs.Demand.{VisitFalls, Falls, RunFalls, DecodeFalls, PassFalls, Recovers, DecodeRecovers, smallest, EncodesOuter, OuterFalls, OuterRecovers}
 use Rattle.model.specs.Limits.{TableLimits, Limits}
+use Rattle.model.specs.Outer.{blockSum, blockCount, outerWord, reliabilityOf, leastBelow, weakest, outerSteps, stepCount, outerState, outerCounts}
 use Rattle.model.specs.Symbols.{choose, same, count, tabulate, addEach, subEach, Below}
 use Rattle.model.specs.Vote.{leader, leadCount, nextCount, votes, votesRead, counted, margin, ground, equalBits}
-use Rattle.theory.specs.Answers.{table-accepted, table-accepts, table-usable, Opens, Taken, decode-taken, decode-opens, open-taken, pass-taken, explain-takes, explain-taken}
+use Rattle.theory.specs.Answers.{table-accepted, table-accepts, table-usable, Opens, Taken, decode-taken, decode-opens, open-taken, pass-taken, explain-takes, explain-taken, BlockFits, encode-outer-taken, encode-symbols, encode-takes, encoded-data, decode-outer-taken}
 use Rattle.theory.specs.Branches.{orthogonal-differences}
 use Rattle.theory.specs.Codes.{code-incidence, check-symbol, check-symbols}
 use Rattle.theory.specs.Counting.{eqb-yes, eqb-no, All, length-symbolsAt, count-misses}
 use Rattle.theory.specs.Counters.{length-counted, counted-at, votes-counted}
-use Rattle.theory.specs.Decoding.{code-falls, code-received, code-opened-sized, code-sized, code-tied, code-distance, code-recovers, code-minima}
+use Rattle.theory.specs.Decoding.{OnPage, on-distance, code-on, code-falls, code-received, code-opened-sized, code-sized, code-tied, code-distance, code-recovers, code-minima}
 use Rattle.theory.specs.Distance.{length-tabulate, tabulate-ext}
 use Rattle.theory.specs.Explaining.{Ground, ground-is, bits-at, bits-ones, bits-below}
-use Rattle.theory.specs.Falling.{InRange, visit-no, visit-yes, weight-falls, falls-spent, falls-at}
+use Rattle.theory.specs.Falling.{InRange, visit-no, visit-yes, weight-falls, falls-spent, changes-spent, falls-at}
+use Rattle.theory.specs.Integers.{Least}
 use Rattle.theory.specs.Margins.{margin-low, margin-high, margin-top, margin-bottom, other-zero, margin-stays, margin-at}
 use Rattle.theory.specs.Moments.{result-is, syndrome-is, changes-few, weight-few}
 use Rattle.theory.specs.OneBranch.{firstTests, run-all, checks-all, check-all, differences-all, answer-all}
+use Rattle.theory.specs.OuterCheck.{zero-no-step, no-steps, clean-no-step, weakest-least, steps-on, step-adds, steps-few, outer-other, outer-symbols, outer-keeps}
 use Rattle.theory.specs.PassCalls.{calls-made, takenOf, calls-taken, taken-all, all-small}
 use Rattle.theory.specs.Runs.{range-pass, range-passes, symbols-range, symbols-visited}
 use Rattle.theory.specs.Schedule.{smallest-in, smallest-least, runs-few, runs-of, smallest-run, followed, minima}
@@ -455,3 +458,94 @@ pub counters-decode-c : (c : Code) (page thresholds : List ℕ) (lent : State) (
     → cDecodeCountersOutcome c page thresholds lent margins counters counts ≡ record { given = cDecodeOutcome c true page thresholds lent margins counts; counters = counters }
 unfolding cDecodeCountersOutcome
 counters-decode-c c page ts lent margins counters counts e = ap (λ (b : Bool). record { given = cDecodeOutcome c b page ts lent margins counts; counters = counters }) e
+
+-- ---- 10. the outer check (N8)
+
+-- For every input that encode in blocks of L takes, its page is the one that encode writes for data that agrees with the lent data but at the last
+-- places of blocks, where every block sums to 0.
+pub outer-encodes : (c : Code) (L : ℕ) (u : List ℕ) (n : ℕ) → encodeOuterAnswer c L u n ≡ 0 → EncodesOuter c L u (codeWord c (outerWord c L u))
+outer-encodes c L u n e =
+    let a = encode-outer-taken c L u n e in
+    let w = encode-symbols c u n (a .0) in
+    let some : 0 < c .q = omega (arith, w .low 0) in
+    record {
+      agrees = outer-other c L (a .1) some u;
+      keeps = outer-keeps c L (a .1) some u;
+      encodes = (encode-takes c u (outerWord c L u) n (a .0) (outer-symbols c L (a .1) some u (w .low)), refl);
+    }
+
+-- A block's step takes the first symbol of least reliability among its first L − 1.
+pub outer-weakest : (c : Code) (L : ℕ) → BlockFits c L → (i e : ℕ) (st : State)
+    → (p : ℕ) × (weakest c L i e st ≡ i * L + p) × Least (L - 1) (λ p. reliabilityOf c e st (i * L + p)) p
+unfolding weakest
+outer-weakest c L f i e st = (leastBelow (L - 1) (λ p. reliabilityOf c e st (i * L + p)), refl, weakest-least c L f i e st)
+
+module _ (c : Code) (L : ℕ) (others : Bool) (page thresholds : List ℕ) (lent : State) (e : decodeOuterAnswer c L (others && decodeFits c page lent) page thresholds ≡ 0) where
+  answers : (decodeAnswer c (others && decodeFits c page lent) page thresholds ≡ 0) × BlockFits c L
+  answers = decode-outer-taken c L (others && decodeFits c page lent) page thresholds e
+
+  opens-page : Opens c page lent
+  opens-page = decode-taken c others page thresholds lent (answers .0) .opens
+
+  -- what the passes leave is a state of the page, and so is what any number of blocks leave
+  pub passes-on : OnPage c page (decodedState c thresholds page)
+  unfolding decodedState
+  passes-on = code-on c (opens-page .usable) page (opens-page .whole) (run c thresholds page) (range c others page thresholds lent (answers .0))
+
+  pub blocks-on : (n : ℕ) → n ≤ blockCount c L → OnPage c page (outerSteps c L n (decodedState c thresholds page))
+  blocks-on n h = steps-on c L (answers .1) (opens-page .usable) page (opens-page .whole) n h (decodedState c thresholds page) passes-on
+
+  -- The falling rule, for the passes of this decode, with the distance after them; each block in its turn adds its step's reliability to the distance.
+  pub outer-falls : OuterFalls c L thresholds page (outerCounts c L thresholds page)
+  unfolding outerCounts decodedCounts
+  outer-falls = record {
+    falls = decode-falls c others page thresholds lent (answers .0) .falls;
+    steps = (λ i h. step-adds c L (answers .1) (opens-page .usable) page (opens-page .whole) i h (outerSteps c L i (decodedState c thresholds page)) (blocks-on i (omega arith)));
+    start = refl;
+    end = refl;
+  }
+
+  -- Recovery, for data whose blocks of L sum to 0, within the bound of decode: the result is the data sent, and no outer step occurs.
+  -- With outer-encodes that covers the pages of encode in blocks of L too.
+  pub outer-recovers : OuterRecovers c L thresholds page (outerState c L thresholds page .result) (outerCounts c L thresholds page)
+  unfolding outerState outerCounts
+  outer-recovers u sent t taken keeps few room =
+      let back : decodedState c thresholds page .result ≡ dataOf c sent = decode-recovers c others page thresholds lent (answers .0) u sent t taken few room in
+      let none = no-steps c L (decodedState c thresholds page) (blockCount c L)
+      (λ i h. zero-no-step c L i (decodedState c thresholds page) (ap (λ (w : List ℕ). blockSum (c .q) L w i) (back ∙ encoded-data c u sent taken) ∙ keeps i h)) in
+      record { data-sent = ap (λ (st : State). st .result) (none .0) ∙ back; no-step = none .1; changes = rw (none .1) (omega arith) }
+
+  -- Where the passes end at distance 0 no outer step occurs, whatever the blocks sum to: every reliability is then J + 1.
+  pub outer-clean : distanceTo c page (decodedState c thresholds page) ≡ 0
+      → (outerState c L thresholds page ≡ decodedState c thresholds page) × (stepCount c L (blockCount c L) (decodedState c thresholds page) ≡ 0)
+  unfolding outerState
+  outer-clean z =
+      no-steps c L (decodedState c thresholds page) (blockCount c L)
+      (λ i h. clean-no-step c L (answers .1) (opens-page .usable) page (opens-page .whole) i h (decodedState c thresholds page)
+      (sym (on-distance c (opens-page .usable) page (opens-page .whole) (decodedState c thresholds page) passes-on) ∙ z))
+
+  -- The bounds of the counts stand: the changes, the steps included, are at most the distance at the start and one a block.
+  pub outer-bounded : Bounded (outerCounts c L thresholds page) × (outerCounts c L thresholds page .changes ≤ outerCounts c L thresholds page .start + blockCount c L)
+  unfolding outerCounts decodedCounts outerState
+  outer-bounded =
+      let b = counts-bounded c others page thresholds lent (answers .0) in
+      let l = opens-page .usable in
+      let spent-most = decode-falls c others page thresholds lent (answers .0) .falls .total in
+      let few = changes-spent (c .q) (checksOf c) (run c thresholds page) (opened c page) in
+      let steps = steps-few c L (blockCount c L) (decodedState c thresholds page) in
+      let blocks : blockCount c L * 2 ≤ dataCount c = omega (arith, mul-le-mul-left (blockCount c L) (answers .1 .low), answers .1 .divides) in
+      let on = blocks-on (blockCount c L) (omega arith) in (
+        record {
+          passes-most = b .passes-most;
+          changes-most = omega (arith, b .start-most, l .table .sizes .data-high);
+          start-most = b .start-most;
+          end-most = omega (
+            arith,
+            on-distance c l page (opens-page .whole) (outerSteps c L (blockCount c L) (decodedState c thresholds page)) on,
+            weight-few (c .q) (dataCount c) (checkCount c) (outerSteps c L (blockCount c L) (decodedState c thresholds page)) (on .sized),
+            l .table .sizes .k-high,
+            l .table .sizes .data-high,
+          );
+        },
+        omega arith,
+      )
