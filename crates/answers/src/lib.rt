@@ -1,11 +1,12 @@
-// The tests of the calls, walked in order: the lengths of lent buffers, the tests of a call that reads symbols, the tests of thresholds.
+// The tests of the calls, walked in order: the lengths of lent buffers, the tests of a call that reads symbols, those of thresholds and of blocks.
 use params::Params;
 ghost use mathlib.Core.Path.{_≡_};
 ghost use mathlib.Core.Bool.{_&&_};
-ghost use Prim.Native.Nat.{_+_, _*_, _≤_};
+ghost use mathlib.Core.List.{List, _++_};
+ghost use Prim.Native.Nat.{ℕ, _+_, _*_, _≤_};
 ghost use lib.Dec.{eqb};
 ghost use Rattle.model.specs.Decoder.{stateBy};
-ghost use Rattle.model.specs.Calls.{allBelow, firstThatApplies, pageTests, thresholdTests, countersFit, decodeAnswer, passAnswer, explainAnswer};
+ghost use Rattle.model.specs.Calls.{allBelow, firstThatApplies, pageTests, thresholdTests, blockTest, countersFit, decodeAnswer, decodeOuterAnswer, passAnswer, explainAnswer};
 ghost use Rattle.params.specs.Codes.{codeBy};
 
 // Two lengths are as a call needs them.
@@ -206,4 +207,54 @@ pub fn explain_answer(
         return 11;
     }
     0
+}
+
+// Test 12, of blocks of so many symbols; it looks at no position.
+pub fn block_answer(code: Params, block: usize) -> u32
+    requires { ⌜ code .b * code .k ≤ 4096 ⌝ }
+    ensures { λ r. ⌜ ((ps : List ℕ) → r ≡ firstThatApplies (blockTest (codeBy code ps) block)) ⌝ }
+{
+    if block < 2 {
+        return 12;
+    }
+    if !blocks::divides(block, params::data_count(code)) {
+        return 12;
+    }
+    0
+}
+
+// The tests of encode in blocks: 1 to 7 and 10, and 12.
+pub fn encode_outer_answer(
+    code: Params,
+    positions: &[u16],
+    block: usize,
+    fits: bool,
+    data: &[u8],
+) -> u32
+    ensures { λ r. ⌜ r ≡ firstThatApplies (pageTests (codeBy code (now (positions .entry))) fits (now («data» .entry))
+        ++ blockTest (codeBy code (now (positions .entry))) block) ⌝ }
+{
+    let number = page_answer(code, positions, fits, data);
+    if number != 0 {
+        return number;
+    }
+    block_answer(code, block)
+}
+
+// The tests of decode in blocks: 1 to 10, and 12.
+pub fn decode_outer_answer(
+    code: Params,
+    positions: &[u16],
+    block: usize,
+    fits: bool,
+    page: &[u8],
+    thresholds: &[u8],
+) -> u32
+    ensures { λ r. ⌜ r ≡ decodeOuterAnswer (codeBy code (now (positions .entry))) block fits (now (page .entry)) (now (thresholds .entry)) ⌝ }
+{
+    let number = decode_answer(code, positions, fits, page, thresholds);
+    if number != 0 {
+        return number;
+    }
+    block_answer(code, block)
 }

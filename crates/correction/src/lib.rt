@@ -16,7 +16,7 @@ ghost use Rattle.zeros.specs.Counts.{zeroCounts};
 ghost use Rattle.correction.specs.Decoded.{decoded};
 
 // The number of nonzero symbols of D and S together.
-fn state_weight(d: &[u8], s: &[u8]) -> u32
+pub fn state_weight(d: &[u8], s: &[u8]) -> u32
     requires { ⌜ (length (now d) ≤ 4096) × (length (now s) ≤ 4096) ⌝ }
     ensures { λ r. ⌜ r ≡ weight (now (d .entry)) + weight (now (s .entry)) ⌝ }
 {

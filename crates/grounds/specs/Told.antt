@@ -7,9 +7,11 @@ use native.Mathlib.Omega.{arith}
 use lib.Arith.{digits-div}
 use lib.ListN.{length, getD, drop, drop-of-length-le, length-drop}
 use lib.Seq.{drop-cons}
+use Rattle.model.specs.Code.{Code, dataCount, checksEach}
 use Rattle.model.specs.Symbols.{same}
 use Rattle.model.specs.Vote.{leader, leadCount, nextCount, ground, equalBits}
 use Rattle.theory.specs.Explaining.{bits-cons, bits-nil, bits-small}
+use Rattle.checks.specs.Places.{placeAt, Placed}
 use Rattle.checks.specs.declared.Place.{Place}
 use Rattle.grounds.specs.declared.Told.{Told}
 
@@ -50,6 +52,12 @@ from-all es h i b z w = w .are ∙ ap (λ (n : ℕ). equalBits (drop n es) h) (l
 
 abbrev pub placeBy : ℕ → ℕ → ℕ → Place
 placeBy k each j = record { symbol = j; start = j / k * k; end = j / k * k + k; first = j / k * each; last = j / k * each + each }
+
+-- it is the place of j, with as many checks as each data symbol has
+pub placed-by : (c : Code) (each j : ℕ) (p : Place) → each ≡ checksEach c → j < dataCount c → p ≡ placeBy (c .k) each j → Placed c p
+placed-by c each j p e h f =
+    let n : p .symbol ≡ j = ap (λ (x : Place). x .symbol) f in
+    record { inside = omega (arith, n); here = f ∙ ap (λ (m : ℕ). placeBy (c .k) m j) e ∙ ap (placeAt c) (sym n) }
 
 -- the branches before `start` are passed, whose runs end at `first`
 pub record Walked (k each j start first : ℕ) : Type 0 where

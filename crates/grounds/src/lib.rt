@@ -72,7 +72,7 @@ fn tell(code: Params, positions: &[u16], j: usize, own: u8, threshold: u32, s: &
 }
 
 // The place of a data symbol, found branch by branch: no division is needed.
-fn place_of(code: Params, each: usize, symbol: usize) -> Place
+pub fn place_of(code: Params, each: usize, symbol: usize) -> Place
     requires { ⌜ (1 ≤ code .k) × (code .k ≤ 4096) × (each ≤ 256) × (symbol < 4096) ⌝ }
     ensures { λ r. ⌜ r ≡ placeBy (code .k) each symbol ⌝ }
 {

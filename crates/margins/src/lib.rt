@@ -16,8 +16,8 @@ ghost use Rattle.checks.specs.Places.{AtTable};
 ghost use Rattle.zeros.specs.Counts.{zeroCounts};
 ghost use Rattle.margins.specs.Margins.{Left};
 
-// The margin by its two terms, each at most 33: exact at both ends.
-fn margin_of(zeros: u8, most: u8) -> i32
+// The margin by its two terms, each at most 33: exact at both ends. Reliabilities too are such differences.
+pub fn margin_of(zeros: u8, most: u8) -> i32
     requires { ⌜ (zeros ≤ 33) × (most ≤ 33) ⌝ }
     ensures { λ r. ⌜ r ≡ pos zeros -ℤ pos most ⌝ }
 {

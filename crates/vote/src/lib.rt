@@ -9,7 +9,7 @@ ghost use Rattle.model.specs.Vote.{goesBefore, leader, otherCount};
 ghost use Rattle.vote.specs.Leading.{leadOf, voteOf};
 
 // How often v stands among the estimates.
-fn count_equal(es: &[u8], v: u8) -> u8
+pub fn count_equal(es: &[u8], v: u8) -> u8
     requires { ⌜ length (now es) ≤ 255 ⌝ }
     ensures { λ r. ⌜ r ≡ count v (now (es .entry)) ⌝ }
 {

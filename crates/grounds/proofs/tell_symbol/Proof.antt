@@ -8,9 +8,9 @@ use lib.ListN.{getD}
 use Rattle.model.specs.Code.{Code, checksBy, checksOf}
 use Rattle.model.specs.Symbols.{symbolsAt}
 use Rattle.params.specs.Codes.{codeBy}
-use Rattle.checks.specs.Places.{placeAt, runAt, Found, found}
+use Rattle.checks.specs.Places.{runAt, Found, found}
 use Rattle.checks.specs.declared.Place.{Place}
-use Rattle.grounds.specs.Told.{toldOf, placeBy}
+use Rattle.grounds.specs.Told.{toldOf, placed-by}
 use Rattle.grounds.proofs.tell_symbol.Statement.{statement}
 use Rattle.grounds.proofs.tell_symbol.Tie as tie
 
@@ -31,16 +31,11 @@ place-of-requires c κs =
     (z .k-low, z .k-high, omega (arith, c .checks-each .ensures, z .J-high), omega (arith, b .pre .2, z .data-high))
 
 -- the place is that of the symbol, and what it is good for
-here : (c : tie.After-place-of) → c .place-of .result ≡ placeAt (codeAt (start c)) (start c .args .symbol)
-here c = let a = start c .args in c .place-of .ensures ∙ ap (λ (n : ℕ). placeBy (a .code .k) n (a .symbol)) (c .before .checks-each .ensures)
-
 number : (c : tie.After-place-of) → c .place-of .result .symbol ≡ start c .args .symbol
-number c = ap (λ (p : Place). p .symbol) (here c)
+number c = ap (λ (p : Place). p .symbol) (c .place-of .ensures)
 
 place : (c : tie.After-place-of) → Found (codeAt (start c)) (start c .args .s .now) (c .place-of .result)
-place c =
-    let b = start c in
-    found (b .pre .0) (record { inside = omega (arith, number c, b .pre .2); here = here c ∙ ap (placeAt (codeAt b)) (sym (number c)) })
+place c = let b = start c in found (b .pre .0) (placed-by (codeAt b) _ _ _ (c .before .checks-each .ensures) (b .pre .2) (c .place-of .ensures))
 
 sub-index : tie.Need-sub-index
 sub-index c = omega (arith, place (c .before) .start-low, number (c .before))

@@ -1,0 +1,2 @@
+-- The laws of blocks of data symbols.
+pub mod Blocks

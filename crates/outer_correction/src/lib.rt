@@ -1,0 +1,61 @@
+// The correction of a page in blocks: the passes, then the outer steps where the passes leave a distance.
+use params::Params;
+use tally::Tally;
+ghost use mathlib.Core.Path.{_≡_};
+ghost use mathlib.Core.Logic.{_≢_};
+ghost use lib.ListN.{length};
+ghost use Rattle.model.specs.Code.{dataCount};
+ghost use Rattle.model.specs.Decoder.{stateBy};
+ghost use Rattle.params.specs.Codes.{codeBy};
+ghost use Rattle.theory.specs.Answers.{Taken, BlockFits};
+ghost use Rattle.visits.specs.Progress.{progress};
+ghost use Rattle.zeros.specs.Counts.{zeroCounts};
+ghost use Rattle.outer_correction.specs.Corrected.{corrected};
+
+// Corrects a page that was tested. Where the passes leave no distance no block has a step, whatever it sums to.
+// zeros has one byte a data symbol; afterwards, where the distance at the end is not 0, the zeros at the checks of each.
+pub fn correct_page(
+    code: Params,
+    positions: &[u16],
+    block: usize,
+    page: &[u8],
+    thresholds: &[u8],
+    zeros: &mut [u8],
+    result: &mut [u8],
+    s: &mut [u8],
+    d: &mut [u8],
+) -> Tally
+    requires { ⌜ Taken (codeBy code (now positions)) (now page) (now thresholds) (stateBy (now result) (now s) (now d))
+        × BlockFits (codeBy code (now positions)) block
+        × (length (now zeros) ≡ dataCount (codeBy code (now positions))) ⌝ }
+    ensures done { λ t. ⌜ progress (now (result .exit)) (now (s .exit)) (now (d .exit)) t
+        ≡ corrected (codeBy code (now (positions .entry))) block (now (thresholds .entry)) (now (page .entry)) ⌝ }
+    ensures counted { λ t. ⌜ (t .end ≢ 0 → now (zeros .exit) ≡ zeroCounts (codeBy code (now (positions .entry))) (now (s .exit))) ⌝ }
+{
+    let mut none = [0u8; 0];
+    let ran = correction::decode_page(
+        code,
+        positions,
+        page,
+        thresholds,
+        zeros,
+        &mut none,
+        result,
+        s,
+        d,
+    );
+    if ran.end == 0 {
+        return ran;
+    }
+    let steps = outer_steps::outer_steps(code, positions, block, result, s, d);
+    if steps == 0 {
+        return ran;
+    }
+    zeros::count_zeros(code, positions, s, zeros);
+    Tally {
+        passes: ran.passes,
+        changes: ran.changes + steps,
+        start: ran.start,
+        end: correction::state_weight(d, s),
+    }
+}

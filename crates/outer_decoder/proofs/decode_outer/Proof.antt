@@ -1,0 +1,73 @@
+-- `decode_outer`: either buffer for the zeros is large enough; the rest is `decode_outer_into`'s.
+use borrow.Author.Needs.{needs}
+use native.Mathlib.Omega.{arith}
+use Rattle.params.specs.Sizes.{sizes-fit}
+use Rattle.outer_decoder.proofs.decode_outer.Statement.{statement}
+use Rattle.outer_decoder.proofs.decode_outer.Tie as tie
+
+data-count-requires : tie.Need-data-count-requires
+data-count-requires c κs =
+    let a = c .before .before .before .before .before .before .args in
+    omega (arith, sizes-fit (a .k) (a .b) (omega arith) (omega arith))
+
+slice-aggregate-decode-outer-into : tie.Need-slice-aggregate-decode-outer-into
+slice-aggregate-decode-outer-into c = search needs
+
+decode-outer-into-requires : tie.Need-decode-outer-into-requires
+decode-outer-into-requires c κs = search needs
+
+same-length : tie.Need-same-length
+same-length c = search needs
+
+same-length-2 : tie.Need-same-length-2
+same-length-2 c = search needs
+
+same-length-3 : tie.Need-same-length-3
+same-length-3 c = search needs
+
+same-length-4 : tie.Need-same-length-4
+same-length-4 c = search needs
+
+returns : tie.Need-returns
+returns c = search needs
+
+slice-aggregate-decode-outer-into-2 : tie.Need-slice-aggregate-decode-outer-into-2
+slice-aggregate-decode-outer-into-2 c = search needs
+
+decode-outer-into-requires-2 : tie.Need-decode-outer-into-requires-2
+decode-outer-into-requires-2 c κs = search needs
+
+same-length-5 : tie.Need-same-length-5
+same-length-5 c = search needs
+
+same-length-6 : tie.Need-same-length-6
+same-length-6 c = search needs
+
+same-length-7 : tie.Need-same-length-7
+same-length-7 c = search needs
+
+same-length-8 : tie.Need-same-length-8
+same-length-8 c = search needs
+
+returns-2 : tie.Need-returns-2
+returns-2 c = search needs
+
+pub decode-outer-spec : {M : Type 1} → statement M
+decode-outer-spec =
+    tie.close
+    (tie.spec
+    data-count-requires
+    slice-aggregate-decode-outer-into
+    decode-outer-into-requires
+    same-length
+    same-length-2
+    same-length-3
+    same-length-4
+    returns
+    slice-aggregate-decode-outer-into-2
+    decode-outer-into-requires-2
+    same-length-5
+    same-length-6
+    same-length-7
+    same-length-8
+    returns-2)

@@ -1,0 +1,3 @@
+-- What a block's step is, and its laws.
+pub mod Weakest
+pub mod Blocks
