@@ -1,17 +1,18 @@
 -- The positions that are read of a table: none where there are more than 8 runs of 32, which are refused as none are.
-use mathlib.Core.Path.{_≡_, refl, ap, sym, _∙_}
+use mathlib.Core.Path.{_≡_, refl, ap, sym, subst, _∙_}
 use mathlib.Core.Logic.{_≢_}
-use mathlib.Core.Bool.{Bool, true, false}
+use mathlib.Core.Bool.{Bool, true, false, _&&_}
 use mathlib.Core.List.{List, [], _∷_, _++_}
 use Prim.Native.Nat.{ℕ, _+_, _-_, _*_, _/_, _%_, _≤_, _<_}
 use native.Mathlib.Decide.{ℕ-discrete}
 use native.Mathlib.Numerals.{add-one}
 use native.Mathlib.Omega.{arith}
-use lib.Dec.{leb}
+use lib.Dec.{T, leb, leb→le}
 use lib.ListN.{length, getD, set, take}
 use lib.Seq.{take-set-le, take-suc-set}
 use borrow.Author.Tests.{leb-false, le-leb, lt-leb}
 use Rattle.model.specs.Symbols.{choose, tabulate}
+use Rattle.theory.specs.Answers.{and-true}
 use Rattle.theory.specs.Counting.{eqb-yes, eqb-no}
 use Rattle.theory.specs.Distance.{length-tabulate}
 use Rattle.theory.specs.Turns.{tabulate-snoc}
@@ -84,3 +85,9 @@ kept-same f ps h = go (leb (length ps) 256) refl
 
 pub read-same : {A : Type 0} (f : List ℕ → A) (xs ps : List ℕ) → xs ≡ kept ps → (256 < length ps → f [] ≡ f ps) → f xs ≡ f ps
 read-same f xs ps e h = ap f e ∙ kept-same f ps h
+
+-- what small buffers have room for
+pub small-fits : (bytes symbols : ℕ) (r : Bool) → r ≡ (leb bytes 64 && leb symbols 128) → r ≡ true → (bytes ≤ 64) × (symbols ≤ 128)
+small-fits bytes symbols r e t =
+    let b = and-true (leb bytes 64) (leb symbols 128) (sym e ∙ t) in
+    (leb→le bytes 64 (subst T (sym (b .0)) tt), leb→le symbols 128 (subst T (sym (b .1)) tt))

@@ -8,14 +8,15 @@ use native.Mathlib.Nat.{div-le-self, mul-le-mul-left}
 use native.Mathlib.Omega.{arith}
 use lib.Dec.{eqb}
 use lib.ListN.{length}
-use Rattle.model.specs.Bytes.{wordOf, marginBytes, bytesOf, cDecodeOutcome, cPassOutcome, explainedBytes, cExplainOutcome}
-use Rattle.model.specs.Calls.{firstThatApplies, within, branchesFit, runsFit, sizeTests, tableTests, pageTests, tableAnswer, encodeAnswer, syndromeAnswer, stateFits, decodeFits, decodeAnswer, openAnswer, passAnswer, outcome, encodeOutcome, syndromeOutcome, Decoded, openOutcome, Passed, passedState, passedChanges, passTests, explained, explainAnswer}
+use Rattle.model.specs.Bytes.{wordOf, marginBytes, bytesOf, cDecodeOutcome, cDecodeOuterOutcome, cPassOutcome, explainedBytes, cExplainOutcome}
+use Rattle.model.specs.Calls.{firstThatApplies, within, branchesFit, runsFit, sizeTests, tableTests, pageTests, tableAnswer, encodeAnswer, encodeOuterAnswer, syndromeAnswer, stateFits, decodeFits, decodeAnswer, decodeOuterAnswer, openAnswer, passAnswer, outcome, encodeOutcome, encodeOuterOutcome, syndromeOutcome, Decoded, openOutcome, Passed, passedState, passedChanges, passTests, explained, explainAnswer}
 use Rattle.model.specs.Code.{Code, codeOf, codeWord, syndrome}
 use Rattle.model.specs.Decoder.{State, opened, decodedState, decodedCounts, marginsOf}
-use Rattle.model.specs.Demand.{Encodes, DecodeFalls, PassFalls, DecodeRecovers}
+use Rattle.model.specs.Demand.{Encodes, EncodesOuter, DecodeFalls, PassFalls, DecodeRecovers}
 use Rattle.model.specs.Limits.{SizeLimits}
+use Rattle.model.specs.Outer.{outerWord, outerState, outerCounts}
 use Rattle.model.specs.Symbols.{choose}
-use Rattle.theory.specs.Answers.{refused-first, sizes-taken, page-taken, decode-taken}
+use Rattle.theory.specs.Answers.{refused-first, sizes-taken, page-taken, decode-taken, decode-outer-taken}
 use Rattle.theory.specs.Outcomes.{left-as-lent, outcome-number}
 use Rattle.theory.specs.Statements.{decode-falls, pass-falls}
 use Rattle.octets.specs.Positions.{kept, all-read, read-same}
@@ -86,6 +87,12 @@ module _ (q k b : ℕ) (xs ps : List ℕ) (e : xs ≡ kept ps) where
   encode-read u page =
       outcome-read (λ l. encodeAnswer (codeOf q k b l) u (length page)) (λ l. codeWord (codeOf q k b l) u) page (λ l u. refused-first (sizeTests (codeOf q k b l)) _ u)
 
+  pub encode-outer-read : (L : ℕ) (u page : List ℕ) → encodeOuterOutcome (codeOf q k b xs) L u page ≡ encodeOuterOutcome (codeOf q k b ps) L u page
+  unfolding encodeOuterOutcome encodeOuterAnswer pageTests tableTests sizeTests
+  encode-outer-read L u page =
+      outcome-read (λ l. encodeOuterAnswer (codeOf q k b l) L u (length page)) (λ l. codeWord (codeOf q k b l) (outerWord (codeOf q k b l) L u)) page
+      (λ l u. refused-first (sizeTests (codeOf q k b l)) _ u)
+
   pub syndrome-read : (page s : List ℕ) → syndromeOutcome (codeOf q k b xs) page s ≡ syndromeOutcome (codeOf q k b ps) page s
   unfolding syndromeOutcome syndromeAnswer pageTests tableTests sizeTests
   syndrome-read page s =
@@ -129,10 +136,15 @@ module _ (q k b : ℕ) (xs ps : List ℕ) (e : xs ≡ kept ps) where
   sized-read : SizeLimits (codeOf q k b xs) → xs ≡ ps
   sized-read s = all-read xs ps e (sized-length (codeOf q k b xs) s .0)
 
-  pub encodes-read : (u sent : List ℕ) → Encodes (codeOf q k b xs) u sent → Encodes (codeOf q k b ps) u sent
+  encoded-read : (u sent : List ℕ) → Encodes (codeOf q k b xs) u sent → xs ≡ ps
   unfolding encodeAnswer
-  encodes-read u sent n =
-      subst (λ (l : List ℕ). Encodes (codeOf q k b l) u sent) (sized-read (page-taken (codeOf q k b xs) _ u (n .0) .limits .table .sizes)) n
+  encoded-read u sent n = sized-read (page-taken (codeOf q k b xs) _ u (n .0) .limits .table .sizes)
+
+  pub encodes-read : (u sent : List ℕ) → Encodes (codeOf q k b xs) u sent → Encodes (codeOf q k b ps) u sent
+  encodes-read u sent n = subst (λ (l : List ℕ). Encodes (codeOf q k b l) u sent) (encoded-read u sent n) n
+
+  pub encodes-outer-read : (L : ℕ) (u sent : List ℕ) → EncodesOuter (codeOf q k b xs) L u sent → EncodesOuter (codeOf q k b ps) L u sent
+  encodes-outer-read L u sent n = subst (λ (l : List ℕ). EncodesOuter (codeOf q k b l) L u sent) (encoded-read _ sent (n .encodes)) n
 
   pub decoded-read : (others : Bool) (page ts : List ℕ) (lent : State) → decodeAnswer (codeOf q k b xs) (others && decodeFits (codeOf q k b xs) page lent) page ts ≡ 0 → xs ≡ ps
   decoded-read others page ts lent z = sized-read (decode-taken (codeOf q k b xs) others page ts lent z .opens .usable .table .sizes)
@@ -154,4 +166,19 @@ module _ (q k b : ℕ) (xs ps : List ℕ) (e : xs ≡ kept ps) where
         (λ z. decode-falls (codeOf q k b ps) others page ts lent
             (subst (λ (l : List ℕ). decodeAnswer (codeOf q k b l) (others && decodeFits (codeOf q k b l) page lent) page ts ≡ 0) (same z) (zero z))),
         (λ z. subst (λ (l : List ℕ). DecodeRecovers (codeOf q k b l) ts page (x .state .result)) (same z) (f z)),
+      )
+
+  -- decode in blocks: what it does, and that a call that is done has read all positions
+  pub decode-outer-whole : (L : ℕ) (page ts : List ℕ) (lent : State) (margins counts : List ℕ) (r : ℕ) (x : Decoded (List ℕ) (List ℕ))
+      → record { number = r; left = x } ≡ cDecodeOuterOutcome (codeOf q k b xs) L page ts lent margins counts
+      → (record { number = r; left = x } ≡ cDecodeOuterOutcome (codeOf q k b ps) L page ts lent margins counts) × (r ≡ 0 → xs ≡ ps)
+  unfolding cDecodeOuterOutcome decodeOuterAnswer pageTests tableTests sizeTests
+  decode-outer-whole L page ts lent margins counts r x o =
+      let others : Bool = eqb (length margins) (4 * (b * k)) && eqb (length counts) 16 in (
+        o ∙ outcome-read (λ l. decodeOuterAnswer (codeOf q k b l) L (others && decodeFits (codeOf q k b l) page lent) page ts)
+            (λ l.
+            let st = outerState (codeOf q k b l) L ts page in
+            record { state = st; margins = marginBytes (marginsOf (codeOf q k b l) st); counts = bytesOf (outerCounts (codeOf q k b l) L ts page) })
+            (record { state = lent; margins = margins; counts = counts }) (λ l u. refused-first (sizeTests (codeOf q k b l)) _ u),
+        (λ z. decoded-read others page ts lent (decode-outer-taken (codeOf q k b xs) L _ page ts (sym (outcome-number _ _ _ r x o) ∙ z) .0)),
       )

@@ -3,8 +3,10 @@
 use checks::Place;
 use params::Params;
 ghost use mathlib.Core.Path.{_≡_};
+ghost use mathlib.Core.Bool.{_&&_};
 ghost use mathlib.Core.List.{List, map};
 ghost use Prim.Native.Nat.{ℕ, _+_, _*_, _≤_};
+ghost use lib.Dec.{leb};
 ghost use lib.IntN.{pos, _-ℤ_};
 ghost use lib.ListN.{length, take};
 ghost use lib.Seq.{sets};
@@ -23,6 +25,16 @@ fn position(low: u8, high: u8) -> u16
     ensures { λ r. ⌜ r ≡ low + 256 * high ⌝ }
 {
     (low as u16) + 256 * (high as u16)
+}
+
+// Whether a table of so many bytes and a code of so many data symbols have room in small buffers, of 32 positions and of 128 zeros.
+pub fn is_small(bytes: usize, symbols: usize) -> bool
+    ensures { λ r. ⌜ r ≡ (leb bytes 64 && leb symbols 128) ⌝ }
+{
+    if 64 < bytes {
+        return false;
+    }
+    symbols <= 128
 }
 
 // Reads the positions of a table, and hands back how many: none where the length is odd or there are more than 256.

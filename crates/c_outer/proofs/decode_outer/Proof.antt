@@ -1,0 +1,169 @@
+-- `decode_outer`: what holds of decode in blocks with the positions that are read holds with those of the table, in either buffer.
+use borrow.Author.Needs.{needs}
+use mathlib.Core.Path.{_≡_, sym, subst}
+use mathlib.Core.List.{List}
+use Prim.Native.Nat.{ℕ, _*_, _≤_}
+use native.Mathlib.Omega.{arith}
+use lib.ListN.{length}
+use lib.Seq.{length-take-le}
+use Rattle.model.specs.Bytes.{positionsOf, cDecodeOuterOutcome}
+use Rattle.model.specs.Calls.{Decoded}
+use Rattle.model.specs.Code.{codeOf}
+use Rattle.model.specs.Decoder.{stateBy}
+use Rattle.model.specs.Demand.{OuterFalls, OuterRecovers}
+use Rattle.model.specs.Outer.{outerCounts}
+use Rattle.params.specs.Sizes.{sizes-fit}
+use Rattle.octets.specs.Positions.{kept, small-fits}
+use Rattle.octets.specs.Reads.{decode-outer-whole}
+use Rattle.c_outer.proofs.decode_outer.Statement.{statement}
+use Rattle.c_outer.proofs.decode_outer.Tie as tie
+
+-- the start, from where the buffers are chosen
+abbrev start : tie.After-is-small → tie.Start
+start c = c .before .before .before .before .before .before .before .before .before .before
+
+-- what the contract says of the number r and what is left, x, with positions ps
+abbrev Holds : tie.Start → List ℕ → ℕ → Decoded (List ℕ) (List ℕ) → Type 0
+Holds s ps r x =
+    let a = s .args in
+    let c = codeOf (a .q) (a .k) (a .b) ps in
+    let lent = stateBy (a .result .now) (a .syndrome .now) (a .difference .now) in
+    let n = outerCounts c (a .block) (a .thresholds .now) (a .page .now) in
+    (record { number = r; left = x } ≡ cDecodeOuterOutcome c (a .block) (a .page .now) (a .thresholds .now) lent (a .margins .now) (a .counts .now))
+    × ((r ≡ 0 → OuterFalls c (a .block) (a .thresholds .now) (a .page .now) n) × (r ≡ 0 → OuterRecovers c (a .block) (a .thresholds .now) (a .page .now) (x .state .result) n))
+
+-- what holds with the positions that are read, xs, holds with those of the table
+whole : (s : tie.Start) (xs : List ℕ) → xs ≡ kept (positionsOf (s .args .table .now)) → (r : ℕ) (x : Decoded (List ℕ) (List ℕ))
+    → Holds s xs r x → Holds s (positionsOf (s .args .table .now)) r x
+whole s xs e r x h =
+    let a = s .args in
+    let lent = stateBy (a .result .now) (a .syndrome .now) (a .difference .now) in
+    let w = decode-outer-whole (a .q) (a .k) (a .b) xs (positionsOf (a .table .now)) e (a .block) (a .page .now) (a .thresholds .now) lent (a .margins .now) (a .counts .now) r x (h .0) in
+    (w .0, (λ z. subst (λ (ps : List ℕ). Holds s ps r x) (w .1 z) h .1 .0 z, λ z. subst (λ (ps : List ℕ). Holds s ps r x) (w .1 z) h .1 .1 z))
+
+-- where the small buffers are chosen there is room in them
+small : (t : tie.Then1) → let a = start (t .before) .args in (length (a .table .now) ≤ 64) × (a .b * a .k ≤ 128)
+small t =
+    let f = small-fits (length (start (t .before) .args .table .now)) (t .before .before .data-count .result) _ (t .before .is-small .ensures) (t .if1 .taken) in
+    (f .0, omega (arith, f .1, t .before .before .data-count .ensures))
+
+data-count-requires : tie.Need-data-count-requires
+data-count-requires c κs =
+    let a = c .before .before .before .before .before .before .before .before .args in
+    omega (arith, sizes-fit (a .k) (a .b) (omega arith) (omega arith))
+
+is-small-requires : tie.Need-is-small-requires
+is-small-requires c κs = search needs
+
+slice-aggregate-read-positions : tie.Need-slice-aggregate-read-positions
+slice-aggregate-read-positions c = search needs
+
+read-positions-requires : tie.Need-read-positions-requires
+read-positions-requires c κs = omega (arith, small (c .before) .0)
+
+array-share-prefix-few : tie.Need-array-share-prefix-few
+array-share-prefix-few c = search needs
+
+slice-aggregate-decode-outer-into : tie.Need-slice-aggregate-decode-outer-into
+slice-aggregate-decode-outer-into c = sym (length-take-le _ _ (omega arith))
+
+slice-aggregate-decode-outer-into-2 : tie.Need-slice-aggregate-decode-outer-into-2
+slice-aggregate-decode-outer-into-2 c = search needs
+
+decode-outer-into-requires : tie.Need-decode-outer-into-requires
+decode-outer-into-requires c κs =
+    let t = c .before .before .before .before .before .before .before .before .before .before in
+    (omega arith, omega arith, (λ _. omega (arith, small t .1)))
+
+same-length : tie.Need-same-length
+same-length c = search needs
+
+same-length-2 : tie.Need-same-length-2
+same-length-2 c = search needs
+
+same-length-3 : tie.Need-same-length-3
+same-length-3 c = search needs
+
+same-length-4 : tie.Need-same-length-4
+same-length-4 c = search needs
+
+same-length-5 : tie.Need-same-length-5
+same-length-5 c = search needs
+
+returns : tie.Need-returns
+returns c =
+    let d = c .before .before .before .before .before .before .before .before .before .before .before in
+    let r = d .before .before .before .before .before .before .before .before .before in
+    let e = d .decode-outer-into .ensures in
+    whole (start (r .before .before .before)) _ (r .read-positions .ensures .1) _ _ (e .0, (e .1 .0, e .1 .1))
+
+slice-aggregate-read-positions-2 : tie.Need-slice-aggregate-read-positions-2
+slice-aggregate-read-positions-2 c = search needs
+
+read-positions-requires-2 : tie.Need-read-positions-requires-2
+read-positions-requires-2 c κs = search needs
+
+array-share-prefix-positions : tie.Need-array-share-prefix-positions
+array-share-prefix-positions c = search needs
+
+slice-aggregate-decode-outer-into-3 : tie.Need-slice-aggregate-decode-outer-into-3
+slice-aggregate-decode-outer-into-3 c = sym (length-take-le _ _ (omega arith))
+
+slice-aggregate-decode-outer-into-4 : tie.Need-slice-aggregate-decode-outer-into-4
+slice-aggregate-decode-outer-into-4 c = search needs
+
+decode-outer-into-requires-2 : tie.Need-decode-outer-into-requires-2
+decode-outer-into-requires-2 c κs = search needs
+
+same-length-6 : tie.Need-same-length-6
+same-length-6 c = search needs
+
+same-length-7 : tie.Need-same-length-7
+same-length-7 c = search needs
+
+same-length-8 : tie.Need-same-length-8
+same-length-8 c = search needs
+
+same-length-9 : tie.Need-same-length-9
+same-length-9 c = search needs
+
+same-length-10 : tie.Need-same-length-10
+same-length-10 c = search needs
+
+returns-2 : tie.Need-returns-2
+returns-2 c =
+    let d = c .before .before .before .before .before .before .before .before .before .before .before in
+    let r = d .before .before .before .before .before .before .before .before .before in
+    let e = d .decode-outer-into2 .ensures in
+    whole (start (r .before .before .before)) _ (r .read-positions2 .ensures .1) _ _ (e .0, (e .1 .0, e .1 .1))
+
+pub decode-outer-spec : {M : Type 1} → statement M
+decode-outer-spec =
+    tie.close
+    (tie.spec
+    data-count-requires
+    is-small-requires
+    slice-aggregate-read-positions
+    read-positions-requires
+    array-share-prefix-few
+    slice-aggregate-decode-outer-into
+    slice-aggregate-decode-outer-into-2
+    decode-outer-into-requires
+    same-length
+    same-length-2
+    same-length-3
+    same-length-4
+    same-length-5
+    returns
+    slice-aggregate-read-positions-2
+    read-positions-requires-2
+    array-share-prefix-positions
+    slice-aggregate-decode-outer-into-3
+    slice-aggregate-decode-outer-into-4
+    decode-outer-into-requires-2
+    same-length-6
+    same-length-7
+    same-length-8
+    same-length-9
+    same-length-10
+    returns-2)

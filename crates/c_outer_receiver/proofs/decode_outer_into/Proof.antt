@@ -1,0 +1,166 @@
+-- `decode_outer_into`: what `decode_outer_with` leaves, with margins and counts as bytes where it is done, is the C form's outcome.
+use borrow.Author.Needs.{needs}
+use mathlib.Core.Path.{_≡_, sym, _∙_, ap}
+use mathlib.Core.Bool.{Bool, _&&_}
+use Prim.Native.Nat.{ℕ, _*_}
+use native.Mathlib.Omega.{arith}
+use lib.Dec.{eqb}
+use lib.ListN.{length}
+use Rattle.model.specs.Bytes.{marginBytes, bytesOf, cDecodeOuterOutcome}
+use Rattle.model.specs.Calls.{decodeFits, decodeOuterAnswer}
+use Rattle.model.specs.Code.{Code}
+use Rattle.model.specs.Decoder.{State, stateBy, marginsOf}
+use Rattle.params.specs.Codes.{codeBy}
+use Rattle.params.specs.Sizes.{sizes-fit}
+use Rattle.theory.specs.Answers.{and-true, eqb-true, decode-opens, decode-outer-taken}
+use Rattle.theory.specs.Outcomes.{left-as-lent, left-as-done, outcome-number, outcome-lent, outcome-done}
+use Rattle.theory.specs.Statements.{outer-falls, outer-recovers}
+use Rattle.receiver.specs.Received.{Ran}
+use Rattle.outer_receiver.specs.Received.{correctedOutcome}
+use Rattle.c_outer_receiver.proofs.decode_outer_into.Statement.{statement}
+use Rattle.c_outer_receiver.proofs.decode_outer_into.Tie as tie
+
+data-count-requires : tie.Need-data-count-requires
+data-count-requires c κs =
+    let b = c .before .before .before .before .before .before .before .before .before in
+    omega (arith, sizes-fit (b .args .code .k) (b .args .code .b) (b .pre .0) (b .pre .1))
+
+bytes-fit-requires : tie.Need-bytes-fit-requires
+bytes-fit-requires c κs = search needs
+
+decode-outer-with-requires : tie.Need-decode-outer-with-requires
+decode-outer-with-requires c κs = search needs
+
+-- the places that later ones look back to: the start and the decode
+abbrev start : tie.After-decode-outer-with → tie.Start
+start c = c .before .before .before .before .before .before .before .before .before .before .before .before .before .before .before .before
+
+abbrev decode : tie.After-struct-known → tie.After-decode-outer-with
+decode c = c .before .before .before .before .before .before .before .before .before
+
+-- the lengths of the margins and of the counts
+abbrev bytes : tie.Start → Bool
+bytes b = eqb (length (b .args .margins .now)) (4 * (b .args .code .b * b .args .code .k)) && eqb (length (b .args .counts .now)) 16
+
+-- the number returned is that of decode in blocks, with margins and counts among the lent buffers
+number : (p : tie.After-decode-outer-with)
+    → let a = start p .args in
+    let code = codeBy (a .code) (a .positions .now) in
+    let lent = stateBy (a .result .now) (a .syndrome .now) (a .difference .now) in
+    p .decode-outer-with .result .number ≡ decodeOuterAnswer code (a .block) (bytes (start p) && decodeFits code (a .page .now) lent) (a .page .now) (a .thresholds .now)
+unfolding correctedOutcome
+number p =
+    let a = start p .args in
+    let code : Code = codeBy (a .code) (a .positions .now) in
+    let lent : State = stateBy (a .result .now) (a .syndrome .now) (a .difference .now) in
+    outcome-number _ _ _ _ _ (p .decode-outer-with .ensures .0)
+    ∙ ap (λ (b : Bool). decodeOuterAnswer code (a .block) (b && decodeFits code (a .page .now) lent) (a .page .now) (a .thresholds .now))
+    (p .before .before .before .before .before .bytes-fit .ensures ∙ ap (λ (n : ℕ). eqb (length (a .margins .now)) (4 * n) && eqb (length (a .counts .now)) 16) (p .before .before .before .before .before .before .data-count .ensures))
+
+-- where it is done, both lengths fit
+lengths : (c : tie.Else1)
+    → let a = start (decode (c .before)) .args in
+    (length (a .margins .now) ≡ 4 * (a .code .b * a .code .k)) × (length (a .counts .now) ≡ 16)
+lengths c =
+    let p = decode (c .before) in
+    let a = start p .args in
+    let f = and-true (eqb (length (a .margins .now)) (4 * (a .code .b * a .code .k))) (eqb (length (a .counts .now)) 16)
+    (decode-opens _ (bytes (start p)) (a .page .now) (a .thresholds .now) (stateBy (a .result .now) (a .syndrome .now) (a .difference .now))
+    (decode-outer-taken _ (a .block) _ (a .page .now) (a .thresholds .now) (sym (number p) ∙ c .if1 .left) .0) .0) in
+    (eqb-true (length (a .margins .now)) (4 * (a .code .b * a .code .k)) (f .0), eqb-true (length (a .counts .now)) 16 (f .1))
+
+same-length : tie.Need-same-length
+same-length c = search needs
+
+same-length-2 : tie.Need-same-length-2
+same-length-2 c = search needs
+
+same-length-3 : tie.Need-same-length-3
+same-length-3 c = search needs
+
+same-length-4 : tie.Need-same-length-4
+same-length-4 c = search needs
+
+returns : tie.Need-returns
+unfolding correctedOutcome cDecodeOuterOutcome
+returns c =
+    let p = decode (c .before) in
+    let a = start p .args in
+    let same = outcome-lent _ _ _ _ _ (p .decode-outer-with .ensures .0) (c .if1 .taken) in (
+      ap (λ (x : Ran). record { number = p .decode-outer-with .result .number; left = record { state = x .state; margins = a .margins .now; counts = a .counts .now } }) same
+          ∙ left-as-lent _ _ _ _ (number p) (c .if1 .taken),
+      (λ z. absurd (c .if1 .taken z), λ z. absurd (c .if1 .taken z)),
+    )
+
+put-margins-requires : tie.Need-put-margins-requires
+put-margins-requires c κs =
+    let done = c .before .before .before .before .before in
+    (decode (done .before) .decode-outer-with .ensures .1 .0 (done .if1 .left), lengths done .0)
+
+put-counts-requires : tie.Need-put-counts-requires
+put-counts-requires c κs = lengths (c .before .before .before .before .before .before .before .before .before) .1
+
+same-length-5 : tie.Need-same-length-5
+same-length-5 c = search needs
+
+same-length-6 : tie.Need-same-length-6
+same-length-6 c = search needs
+
+same-length-7 : tie.Need-same-length-7
+same-length-7 c = search needs
+
+same-length-8 : tie.Need-same-length-8
+same-length-8 c = search needs
+
+same-length-9 : tie.Need-same-length-9
+same-length-9 c = search needs
+
+same-length-10 : tie.Need-same-length-10
+same-length-10 c = search needs
+
+returns-2 : tie.Need-returns-2
+unfolding correctedOutcome cDecodeOuterOutcome
+returns-2 c =
+    let counts = c .before .before in
+    let margins = counts .before .before .before .before in
+    let done = margins .before .before .before .before .before .before in
+    let p = decode (done .before) in
+    let a = start p .args in
+    let code : Code = codeBy (a .code) (a .positions .now) in
+    let lent : State = stateBy (a .result .now) (a .syndrome .now) (a .difference .now) in
+    let z = done .if1 .left in
+    let n = sym z ∙ number p in
+    let made = outcome-done _ _ _ _ _ (p .decode-outer-with .ensures .0) z in (
+      left-as-done _ _ _ _ n
+          (λ i. record {
+            state = made i .state;
+            margins = (margins .put-margins .ensures _ ∙ ap (λ (x : Ran). marginBytes (marginsOf code (x .state))) made) i;
+            counts = (counts .put-counts .ensures ∙ ap (λ (x : Ran). bytesOf (x .counts)) made) i;
+          }),
+      (
+        λ _. outer-falls code (a .block) (bytes (start p)) (a .page .now) (a .thresholds .now) lent (sym n),
+        λ _. rw (ap (λ (x : Ran). x .state .result) made) (outer-recovers code (a .block) (bytes (start p)) (a .page .now) (a .thresholds .now) lent (sym n)),
+      ),
+    )
+
+pub decode-outer-into-spec : {M : Type 1} → statement M
+decode-outer-into-spec =
+    tie.close
+    (tie.spec
+    data-count-requires
+    bytes-fit-requires
+    decode-outer-with-requires
+    same-length
+    same-length-2
+    same-length-3
+    same-length-4
+    returns
+    put-margins-requires
+    put-counts-requires
+    same-length-5
+    same-length-6
+    same-length-7
+    same-length-8
+    same-length-9
+    same-length-10
+    returns-2)
