@@ -9,6 +9,9 @@
  *                                       qmtd_decode
  *   - gives the same answers with counters that the caller lends
  *                                       qmtd_decode_counters
+ *   - encodes data in blocks, each with an outer check, and decodes such a page: where a block does not fit its outer
+ *     check after the passes, one more step may put a symbol of it right
+ *                                       qmtd_encode_outer, qmtd_decode_outer
  *   - opens a received page, and makes one pass of the decoder on it, so that the page can be looked at between passes
  *                                       qmtd_open, qmtd_pass
  *   - tells why a pass would leave a data symbol of such a page, or that it would change it
@@ -21,8 +24,9 @@
  *   If at most t symbols of an encoded page were replaced and 2 * t + (smallest threshold of the list) <= J,
  *   then the result is the data that was encoded.
  *
- * Of passes made one by one it is promised with the smallest threshold among those that were not refused (qmtd_pass).
- * Beyond that bound every change brings the answer nearer to the received page, but not always to what was sent.
+ * Of passes made one by one it is promised with the smallest threshold among those that were not refused (qmtd_pass);
+ * of qmtd_decode_outer for data whose blocks, of the length that it is given, kept the outer rule. Beyond that bound
+ * every change of a pass brings the answer nearer to the received page, but not always to what was sent.
  *
  * THE CODE. All sums are taken modulo q. The b * k data symbols are numbered through: symbol i of branch r has the
  * number r * k + i. The code table is b runs of J positions, one run for each branch, one after the other. Check i is
@@ -34,7 +38,7 @@
  * with runs 0, 1, 4 and 0, 2, 7, so J = 3.
  *
  * RULES FOR ALL CALLS
- *   - Refusals are tested in the order 1, 2, 10, 3, 4, .. 9, 11, and the first that applies is returned.
+ *   - Refusals are tested in the order 1, 2, 10, 3, 4, .. 9, then 11 or 12, and the first that applies is returned.
  *   - A refused call changes no byte of the memory lent to it.
  *   - What is const is only read. What is lent for an answer is written whole when the call returns QMTD_OK; what it
  *     held before does not matter. Only qmtd_pass has buffers that it reads and writes, and the counters of
@@ -67,7 +71,7 @@ extern "C" {
 /* ---- Version ---- */
 
 #define QMTD_VERSION_MAJOR 0
-#define QMTD_VERSION_MINOR 8
+#define QMTD_VERSION_MINOR 9
 #define QMTD_VERSION_PATCH 0
 #define QMTD_VERSION_NUMBER (QMTD_VERSION_MAJOR * 10000 + QMTD_VERSION_MINOR * 100 + QMTD_VERSION_PATCH)
 
@@ -85,6 +89,7 @@ extern "C" {
 #define QMTD_MIN_THRESHOLDS 1   /* thresholds in a list, one a pass */
 #define QMTD_MAX_THRESHOLDS 64
 #define QMTD_MAX_THRESHOLD 32   /* a threshold; the smallest is 0 */
+#define QMTD_MIN_BLOCK 2        /* data symbols of a block; the largest is b * k */
 
 /* ---- Lengths in bytes ---- */
 
@@ -114,6 +119,7 @@ extern "C" {
 #define QMTD_BAD_THRESHOLD_COUNT 8 /* no threshold, or more than 64 */
 #define QMTD_BAD_THRESHOLD 9       /* a threshold above 32 */
 #define QMTD_BAD_SYMBOL_NUMBER 11  /* the number of a data symbol is b * k or more; tested after all others */
+#define QMTD_BAD_BLOCK 12          /* a block length below 2, or one that does not divide b * k; tested after 9 */
 
 /* ---- Grounds, of qmtd_explain ---- */
 
@@ -220,6 +226,49 @@ uint32_t qmtd_decode_counters(uint32_t q, uint32_t k, uint32_t b, const uint8_t 
                               uint8_t *margins, uint64_t margins_len,
                               uint8_t *counters, uint64_t counters_len,
                               uint8_t *counts, uint64_t counts_len);
+
+/* Encodes data in blocks, each with an outer check. Block i is the data symbols i * block to i * block + block - 1; the
+ * blocks run through all branches, and one may lie across two of them. The last symbol of a block is its outer check:
+ * the page gets there the symbol that makes the block sum to 0 modulo q, and the k check symbols of the page count it
+ * like any other. So a page carries b * k - b * k / block symbols of the caller's own.
+ *   block       the length of a block, 2 or more; it divides b * k
+ *   data        read: b * k symbols. What stands at the last place of a block is ignored, but must be below q.
+ *   page        written whole: (b + 1) * k symbols, the page that qmtd_encode writes of the data with the last place of
+ *               each block replaced
+ * Returns QMTD_OK, or 1 to 7, 10 or 12; refused, page is left as it was. */
+QMTD_MUST_USE
+uint32_t qmtd_encode_outer(uint32_t q, uint32_t k, uint32_t b, const uint8_t *table, uint64_t table_len,
+                           uint32_t block,
+                           const uint8_t *data, uint64_t data_len,
+                           uint8_t *page, uint64_t page_len);
+
+/* Decodes a received page whose data was sent in blocks with an outer check. The passes are those of qmtd_decode. After
+ * them the blocks are taken in order. Where a block of the result sums to e modulo q and e is not 0, the reliability of
+ * a symbol of it is the number of zeros among the symbol's J + 1 estimates minus the number of those equal to e, by the
+ * syndrome and the difference as they stand when the block's turn comes. Of the symbols but the last the one of least
+ * reliability is taken, the earliest of equal ones. If its reliability is below that of the block's last symbol, e is
+ * subtracted from the result and the difference at that symbol and from the syndrome at each of its checks: an outer
+ * step. The block then sums to 0. Otherwise, and where e is 0, the block is left as it is.
+ *   block       the length of a block, 2 or more; it divides b * k. It is the one that the page was encoded with: the
+ *               page does not hold it.
+ *   counts      as for qmtd_decode; the outer steps are counted as changes and are no pass, and the distance at the end
+ *               is taken after them
+ *   the others  as for qmtd_decode; result, syndrome, difference and margins are those after the outer steps
+ * An outer step adds its symbol's reliability to the distance, which so may rise or fall; only the changes of passes
+ * always lower it. If the blocks of the data, as encoded, all summed to 0, at most t symbols of the page were replaced
+ * and 2 * t + (smallest threshold of the list) <= J, then the result is the data that was encoded, its outer checks
+ * among it, and there is no outer step. On a code word whose blocks do not sum to 0 there is none either.
+ * Returns QMTD_OK, 1 to 10 or 12; refused, result, syndrome, difference, margins and counts are left as they were. */
+QMTD_MUST_USE
+uint32_t qmtd_decode_outer(uint32_t q, uint32_t k, uint32_t b, const uint8_t *table, uint64_t table_len,
+                           uint32_t block,
+                           const uint8_t *page, uint64_t page_len,
+                           const uint8_t *thresholds, uint64_t thresholds_len,
+                           uint8_t *result, uint64_t result_len,
+                           uint8_t *syndrome, uint64_t syndrome_len,
+                           uint8_t *difference, uint64_t difference_len,
+                           uint8_t *margins, uint64_t margins_len,
+                           uint8_t *counts, uint64_t counts_len);
 
 /* The margin of data symbol j among the margins that a decode wrote. C of this header, not a call of the archive. */
 static inline int32_t qmtd_margin(const uint8_t *margins, uint64_t j)

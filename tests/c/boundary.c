@@ -2,8 +2,9 @@
  * reading of a margin, every length of a table with every b, unaligned memory, which passes of a list are run on the
  * page of case 7 and on clean ones, passes made one by one on the buffers of an opened page, refused ones between them,
  * symbols of such a page explained, each pass against the grounds of the symbols that it came to first, every place of
- * the counters and many lengths, decodes with counters against the same without, and the promise that data comes back
- * from a page with few enough symbols replaced. */
+ * the counters and many lengths, decodes with counters against the same without, block lengths of every size, encodes
+ * and decodes with an outer check against their definition, and the promise that data comes back from a page with few
+ * enough symbols replaced. */
 #include "qmtd.h"
 
 #include <stdio.h>
@@ -95,6 +96,15 @@ static uint32_t decode_counters(const uint8_t *table, size_t table_len, size_t p
     return qmtd_decode_counters(5, K, 1, table, table_len, page, page_len, list, list_len, result, sizeof result,
                                 syndrome, sizeof syndrome, difference, sizeof difference, margins, sizeof margins,
                                 lent, lent_len, counts, counts_len);
+}
+
+/* The same with an outer check. */
+static uint32_t decode_outer(const uint8_t *table, size_t table_len, uint32_t block, size_t page_len,
+                             const uint8_t *list, size_t list_len, size_t counts_len)
+{
+    return qmtd_decode_outer(5, K, 1, table, table_len, block, page, page_len, list, list_len, result, sizeof result,
+                             syndrome, sizeof syndrome, difference, sizeof difference, margins, sizeof margins,
+                             counts, counts_len);
 }
 
 static uint32_t number_at(const uint8_t *bytes)
@@ -233,6 +243,46 @@ static void null_in_decode_counters(void)
     EXPECT(answers_untouched() && counters_zero() && all(page, sizeof page, 0));
 }
 
+static void null_in_outer(void)
+{
+    const uint8_t *t = table_a;
+    const size_t n = sizeof table_a;
+    prepare();
+
+    for (uint32_t block = 0; block <= K; block += K) {
+        EXPECT(qmtd_encode_outer(5, K, 1, NULL, 0, block, data, K, page, 2 * K) == QMTD_BAD_J);
+        EXPECT(qmtd_encode_outer(5, K, 1, t, n, block, NULL, 0, page, 2 * K) == QMTD_BAD_LENGTH);
+        EXPECT(qmtd_encode_outer(5, K, 1, t, n, block, data, K, NULL, 0) == QMTD_BAD_LENGTH);
+        EXPECT(qmtd_encode_outer(5, K, 1, t, n, block, NULL, 0, NULL, 0) == QMTD_BAD_LENGTH);
+        EXPECT(qmtd_encode_outer(5, 0, 1, t, n, block, NULL, 0, NULL, 0) == QMTD_BAD_K);
+        EXPECT(qmtd_encode_outer(0, 0, 1, NULL, 0, block, NULL, 0, NULL, 0) == QMTD_BAD_Q);
+
+        EXPECT(qmtd_decode_outer(5, K, 1, NULL, 0, block, page, 2 * K, thresholds, 2, result, K, syndrome, K,
+                                 difference, K, margins, 4 * K, counts, 16) == QMTD_BAD_J);
+        EXPECT(qmtd_decode_outer(5, K, 1, t, n, block, NULL, 0, thresholds, 2, result, K, syndrome, K,
+                                 difference, K, margins, 4 * K, counts, 16) == QMTD_BAD_LENGTH);
+        EXPECT(qmtd_decode_outer(5, K, 1, t, n, block, page, 2 * K, NULL, 0, result, K, syndrome, K,
+                                 difference, K, margins, 4 * K, counts, 16) == QMTD_BAD_THRESHOLD_COUNT);
+        EXPECT(qmtd_decode_outer(5, K, 1, t, n, block, page, 2 * K, thresholds, 2, NULL, 0, syndrome, K,
+                                 difference, K, margins, 4 * K, counts, 16) == QMTD_BAD_LENGTH);
+        EXPECT(qmtd_decode_outer(5, K, 1, t, n, block, page, 2 * K, thresholds, 2, result, K, NULL, 0,
+                                 difference, K, margins, 4 * K, counts, 16) == QMTD_BAD_LENGTH);
+        EXPECT(qmtd_decode_outer(5, K, 1, t, n, block, page, 2 * K, thresholds, 2, result, K, syndrome, K,
+                                 NULL, 0, margins, 4 * K, counts, 16) == QMTD_BAD_LENGTH);
+        EXPECT(qmtd_decode_outer(5, K, 1, t, n, block, page, 2 * K, thresholds, 2, result, K, syndrome, K,
+                                 difference, K, NULL, 0, counts, 16) == QMTD_BAD_LENGTH);
+        EXPECT(qmtd_decode_outer(5, K, 1, t, n, block, page, 2 * K, thresholds, 2, result, K, syndrome, K,
+                                 difference, K, margins, 4 * K, NULL, 0) == QMTD_BAD_LENGTH);
+        EXPECT(qmtd_decode_outer(5, K, 1, t, n, block, NULL, 0, NULL, 0, NULL, 0, NULL, 0, NULL, 0, NULL, 0,
+                                 NULL, 0) == QMTD_BAD_LENGTH);
+        EXPECT(qmtd_decode_outer(5, 0, 1, t, n, block, NULL, 0, NULL, 0, NULL, 0, NULL, 0, NULL, 0, NULL, 0,
+                                 NULL, 0) == QMTD_BAD_K);
+        EXPECT(qmtd_decode_outer(0, 0, 1, NULL, 0, block, NULL, 0, NULL, 0, NULL, 0, NULL, 0, NULL, 0, NULL, 0,
+                                 NULL, 0) == QMTD_BAD_Q);
+    }
+    EXPECT(answers_untouched() && all(page, sizeof page, 0));
+}
+
 /* The counts are a lent buffer like the others: 6, after 1 to 5 and before 7 to 9. */
 static void counts_length(void)
 {
@@ -248,6 +298,8 @@ static void counts_length(void)
         prepare();
         EXPECT(qmtd_decode(5, K, 1, table_a, sizeof table_a, page, sizeof page, thresholds, 2, result, K, syndrome, K,
                            difference, K, margins, sizeof margins, block, len) == QMTD_BAD_LENGTH);
+        EXPECT(qmtd_decode_outer(5, K, 1, table_a, sizeof table_a, K, page, sizeof page, thresholds, 2, result, K,
+                                 syndrome, K, difference, K, margins, sizeof margins, block, len) == QMTD_BAD_LENGTH);
         EXPECT(all(block, len + 1, 0xEE));
         free(block);
     }
@@ -312,6 +364,57 @@ static void counters_lent(void)
     EXPECT(QMTD_COUNTERS_LEN == 256);
 }
 
+/* 12 unless the block length is 2 or more and divides the number of data symbols: for every length up to twice that
+ * number, and for some that have its low bits; after 1 to 10. */
+static void block_lengths(void)
+{
+    static const uint32_t large[] = {256 + K, 65536 + K, 0x7FFFFFFF, 0x80000000, 0x80000000 + K, 0xFFFFFFFF - K,
+                                     0xFFFFFFFE, 0xFFFFFFFF};
+    static const uint8_t not_orthogonal[] = {0, 0, 1, 0, 2, 0}, bad[] = {33};
+    enum { N = 3 * 40 };
+    static uint8_t sent[N], written[N + 40];
+    const size_t n = sizeof table_a;
+
+    for (uint32_t block = 0; block <= 2 * N; block++) {
+        const uint32_t due = block >= QMTD_MIN_BLOCK && N % block == 0 ? QMTD_OK : QMTD_BAD_BLOCK;
+        memset(written, 0xEE, sizeof written);
+        EXPECT(qmtd_encode_outer(5, 40, 3, table_3, sizeof table_3, block, sent, N, written, sizeof written) == due);
+        EXPECT(all(written, sizeof written, due == QMTD_OK ? 0 : 0xEE));
+    }
+    prepare();
+    for (uint32_t block = 0; block < 2 * K + 3; block++)
+        if (block != K) {
+            EXPECT(qmtd_encode_outer(5, K, 1, table_a, n, block, data, K, page, sizeof page) == QMTD_BAD_BLOCK);
+            EXPECT(decode_outer(table_a, n, block, sizeof page, thresholds, 2, 16) == QMTD_BAD_BLOCK);
+        }
+    for (size_t i = 0; i < sizeof large / sizeof large[0]; i++) {
+        EXPECT(qmtd_encode_outer(5, K, 1, table_a, n, large[i], data, K, page, sizeof page) == QMTD_BAD_BLOCK);
+        EXPECT(decode_outer(table_a, n, large[i], sizeof page, thresholds, 2, 16) == QMTD_BAD_BLOCK);
+    }
+
+    /* A block length as it must be, then not, with something else amiss. */
+    for (uint32_t block = K;; block = 0) {
+        EXPECT(decode_outer(table_a, 7, block, sizeof page, bad, 1, 16) == QMTD_BAD_J);
+        EXPECT(decode_outer(not_orthogonal, sizeof not_orthogonal, block, sizeof page, bad, 1, 16) ==
+               QMTD_NOT_SELF_ORTHOGONAL);
+        EXPECT(decode_outer(table_a, n, block, sizeof page, bad, 1, 15) == QMTD_BAD_LENGTH);
+        EXPECT(decode_outer(table_a, n, block, sizeof page - 1, bad, 1, 16) == QMTD_BAD_LENGTH);
+        EXPECT(decode_outer(table_a, n, block, sizeof page, bad, 1, 16) == QMTD_BAD_THRESHOLD);
+        EXPECT(decode_outer(table_a, n, block, sizeof page, bad, 0, 16) == QMTD_BAD_THRESHOLD_COUNT);
+        EXPECT(qmtd_encode_outer(5, K, 1, table_a, n, block, data, K, page, 0) == QMTD_BAD_LENGTH);
+        page[3] = data[K - 1] = 5;
+        EXPECT(decode_outer(table_a, n, block, sizeof page, bad, 0, 16) == QMTD_BAD_SYMBOL);
+        EXPECT(qmtd_encode_outer(5, K, 1, table_a, n, block, data, K, page, sizeof page) == QMTD_BAD_SYMBOL);
+        page[3] = data[K - 1] = 0;
+        if (block == 0)
+            break;
+    }
+    EXPECT(answers_untouched() && all(page, sizeof page, 0));
+    EXPECT(decode_outer(table_a, n, K, sizeof page, thresholds, 2, 16) == QMTD_OK);
+    EXPECT(all(result, K, 0) && number_at(counts) == 1 && all(counts + 4, 12, 0));
+    EXPECT(QMTD_BAD_BLOCK == 12 && QMTD_MIN_BLOCK == 2);
+}
+
 static void odd_table(void)
 {
     static const uint8_t long_table[67] = {0};
@@ -325,6 +428,8 @@ static void odd_table(void)
     EXPECT(qmtd_encode(5, K, 1, table_a, 7, data, 0, page, 0) == QMTD_BAD_J);
     EXPECT(qmtd_syndrome(5, K, 1, table_a, 7, page, 0, syndrome, 0) == QMTD_BAD_J);
     EXPECT(decode_counters(table_a, 7, 0, thresholds, 0, counters, 0, 0) == QMTD_BAD_J);
+    EXPECT(qmtd_encode_outer(5, K, 1, table_a, 7, 0, data, 0, page, 0) == QMTD_BAD_J);
+    EXPECT(decode_outer(table_a, 7, 0, 0, thresholds, 0, 0) == QMTD_BAD_J);
     EXPECT(qmtd_open(5, K, 1, table_a, 7, page, 0, result, 0, syndrome, 0, difference, 0) == QMTD_BAD_J);
     EXPECT(qmtd_pass(5, K, 1, table_a, 7, 33, result, 0, syndrome, 0, difference, 0, changes, 0) == QMTD_BAD_J);
     EXPECT(qmtd_explain(5, K, 1, table_a, 7, 33, K, result, 0, syndrome, 0, difference, 0, answer, 0) == QMTD_BAD_J);
@@ -381,8 +486,8 @@ static void margin_bytes(void)
     EXPECT(QMTD_MARGIN_LEN == 4 && sizeof bytes == QMTD_MARGINS_LEN(sizeof numbers / sizeof numbers[0], 1));
 }
 
-/* Case 9 of document 01, decoded without counters and with them, explained and by one pass, with every piece at every
- * distance from an aligned address. */
+/* Case 9 of document 01, decoded without counters and with them, explained and by one pass, and a page with an outer
+ * check, with every piece at every distance from an aligned address. */
 static void unaligned(void)
 {
     static const uint8_t case_9_counts[QMTD_COUNTS_LEN] = {2, 0, 0, 0, 2, 0, 0, 0, 7, 0, 0, 0, 2, 0, 0, 0};
@@ -432,6 +537,17 @@ static void unaligned(void)
 
         EXPECT(qmtd_syndrome(256, K, 1, at[0], sizeof table_a, at[1], 2 * K, at[4], K) == QMTD_OK);
         EXPECT(at[4][0] == 7 && at[4][1] == 10 && at[4][2] == 3 && at[4][5] == 3);
+
+        /* As one block of K symbols: what is lent at its last place is ignored, and the data sent comes back. */
+        at[3][0] = 3;
+        at[3][K - 1] = 99;
+        EXPECT(qmtd_encode_outer(256, K, 1, at[0], sizeof table_a, K, at[3], K, at[1], 2 * K) == QMTD_OK);
+        EXPECT(at[1][0] == 3 && at[1][K - 1] == 253 && at[1][K] == 0 && at[1][K + 1] == 3 && at[1][K + 3] == 253);
+        at[1][K + 1] = 0;
+        EXPECT(qmtd_decode_outer(256, K, 1, at[0], sizeof table_a, K, at[1], 2 * K, at[2], 2, at[3], K, at[4], K,
+                                 at[5], K, at[6], QMTD_MARGINS_LEN(K, 1), at[7], QMTD_COUNTS_LEN) == QMTD_OK);
+        EXPECT(memcmp(at[3], at[1], K) == 0 && all(at[5], K, 0) && at[4][1] == 3 && number_at(at[7] + 4) == 0);
+        memset(at[3], 0, K);
         EXPECT(qmtd_encode(256, K, 1, at[0], sizeof table_a, at[3], K, at[1], 2 * K) == QMTD_OK);
         EXPECT(all(at[1], 2 * K, 0));
     }
@@ -563,15 +679,29 @@ static uint32_t below(uint32_t n)
     return (uint32_t)(state >> 33) % n;
 }
 
+/* A check of a data symbol: that of position `a` of its branch's run. */
+static uint32_t check_of(uint32_t k, const uint8_t *table, uint32_t j, uint32_t symbol, uint32_t a)
+{
+    const uint8_t *run = table + 2 * j * (symbol / k);
+    return (symbol + (run[2 * a] | (uint32_t)run[2 * a + 1] << 8)) % k;
+}
+
+/* How often each value is among the estimates of a data symbol. */
+static void count_votes(uint32_t k, const uint8_t *table, uint32_t j, const uint8_t *s, const uint8_t *d,
+                        uint32_t symbol, int32_t votes[256])
+{
+    memset(votes, 0, 256 * sizeof votes[0]);
+    votes[d[symbol]]++;
+    for (uint32_t a = 0; a < j; a++)
+        votes[s[check_of(k, table, j, symbol, a)]]++;
+}
+
 /* The margin of a data symbol by its definition. */
 static int32_t margin_of(uint32_t k, const uint8_t *table, uint32_t j, const uint8_t *s, const uint8_t *d,
                          uint32_t symbol)
 {
-    const uint8_t *run = table + 2 * j * (symbol / k);
-    int32_t votes[256] = {0}, most = 0;
-    votes[d[symbol]]++;
-    for (uint32_t a = 0; a < j; a++)
-        votes[s[(symbol + (run[2 * a] | (uint32_t)run[2 * a + 1] << 8)) % k]]++;
+    int32_t votes[256], most = 0;
+    count_votes(k, table, j, s, d, symbol, votes);
     for (size_t value = 1; value < 256; value++)
         most = votes[value] > most ? votes[value] : most;
     return votes[0] - most;
@@ -696,6 +826,85 @@ static void counted_as(uint32_t q, uint32_t k, uint32_t b, const uint8_t *table,
            memcmp(c, decoded.counts, sizeof c) == 0);
 }
 
+/* A block length for n data symbols. */
+static uint32_t some_block(uint32_t n)
+{
+    uint32_t block;
+    do
+        block = QMTD_MIN_BLOCK + below(n - 1);
+    while (n % block != 0);
+    return block;
+}
+
+/* The outer step of the block that starts at `first`, by its definition. Returns 1 where there is one and adds its
+ * reliability to the distance. */
+static uint32_t outer_step(uint32_t q, uint32_t k, const uint8_t *table, uint32_t j, uint32_t first, uint32_t block,
+                           uint8_t *back, uint8_t *s, uint8_t *d, uint32_t *distance)
+{
+    int32_t votes[256], least = 0, reliability = 0;
+    uint32_t e = 0, weakest = 0;
+    for (uint32_t i = first; i < first + block; i++)
+        e = (e + back[i]) % q;
+    if (e == 0)
+        return 0;
+    for (uint32_t i = first; i < first + block; i++) {
+        count_votes(k, table, j, s, d, i, votes);
+        reliability = votes[0] - votes[e];
+        if (i == first || (i < first + block - 1 && reliability < least)) {
+            least = reliability;
+            weakest = i;
+        }
+    }
+    if (least >= reliability)
+        return 0;
+    back[weakest] = (uint8_t)((back[weakest] + q - e) % q);
+    d[weakest] = (uint8_t)((d[weakest] + q - e) % q);
+    for (uint32_t a = 0; a < j; a++) {
+        uint8_t *at = &s[check_of(k, table, j, weakest, a)];
+        *at = (uint8_t)((*at + q - e) % q);
+    }
+    *distance = (uint32_t)((int32_t)*distance + least);
+    return 1;
+}
+
+/* The page decoded with an outer check in blocks of some length: what decode gives, and after it the outer steps, by
+ * their definition. Refused for its block length, it leaves every byte. Returns the steps. */
+static uint32_t outer_as(uint32_t q, uint32_t k, uint32_t b, const uint8_t *table, uint32_t table_len, uint32_t block,
+                         const uint8_t *received, const uint8_t *list, uint32_t list_len, struct decoded decoded)
+{
+    static uint8_t back[QMTD_MAX_DATA], s[QMTD_MAX_K], d[QMTD_MAX_DATA], m[QMTD_MARGINS_LEN(QMTD_MAX_DATA, 1)];
+    static uint8_t due[QMTD_MAX_DATA], due_s[QMTD_MAX_K], due_d[QMTD_MAX_DATA];
+    const uint32_t n = QMTD_DATA_LEN(k, b), j = table_len / (2 * b), margins_len = QMTD_MARGINS_LEN(k, b);
+    const uint32_t refused[] = {0, 1, n + 1, 0xFFFFFFFF - below(100)};
+    uint32_t steps = 0, distance = number_at(decoded.counts + 12);
+    uint8_t c[QMTD_COUNTS_LEN];
+
+    memset(back, 0xEE, n);
+    memset(s, 0xEE, k);
+    memset(d, 0xEE, n);
+    memset(m, 0xEE, margins_len);
+    memset(c, 0xEE, sizeof c);
+    EXPECT(qmtd_decode_outer(q, k, b, table, table_len, refused[below(4)], received, QMTD_PAGE_LEN(k, b), list,
+                             list_len, back, n, s, k, d, n, m, margins_len, c, sizeof c) == QMTD_BAD_BLOCK);
+    EXPECT(all(back, n, 0xEE) && all(s, k, 0xEE) && all(d, n, 0xEE) && all(m, margins_len, 0xEE) &&
+           all(c, sizeof c, 0xEE));
+    EXPECT(qmtd_decode_outer(q, k, b, table, table_len, block, received, QMTD_PAGE_LEN(k, b), list, list_len, back, n,
+                             s, k, d, n, m, margins_len, c, sizeof c) == QMTD_OK);
+
+    memcpy(due, decoded.result, n);
+    memcpy(due_s, decoded.syndrome, k);
+    memcpy(due_d, decoded.difference, n);
+    for (uint32_t first = 0; first < n; first += block)
+        steps += outer_step(q, k, table, j, first, block, due, due_s, due_d, &distance);
+    EXPECT(memcmp(back, due, n) == 0 && memcmp(s, due_s, k) == 0 && memcmp(d, due_d, n) == 0);
+    for (uint32_t i = 0; i < n; i++)
+        EXPECT(qmtd_margin(m, i) == margin_of(k, table, j, due_s, due_d, i));
+    EXPECT(number_at(c) == number_at(decoded.counts) && number_at(c + 4) == number_at(decoded.counts + 4) + steps);
+    EXPECT(number_at(c + 8) == number_at(decoded.counts + 8));
+    EXPECT(number_at(c + 12) == distance && distance == nonzero(due_s, k) + nonzero(due_d, n));
+    return steps;
+}
+
 /* The page opened, and the passes that decode runs with this list made one by one, refused ones between them: they
  * leave decode's result, syndrome and difference, and are as many with as many changes. */
 static void passes_of(uint32_t q, uint32_t k, uint32_t b, const uint8_t *table, uint32_t table_len,
@@ -733,16 +942,63 @@ static void passes_on_any(uint32_t q, uint32_t k, uint32_t b, const uint8_t *tab
     }
 }
 
+/* Replaces so many of a page's symbols at most. */
+static void replace(uint32_t q, uint8_t *received, uint32_t page_len, uint32_t most)
+{
+    for (; most > 0; most--)
+        received[below(page_len)] = (uint8_t)below(q);
+}
+
+/* Data encoded with an outer check. The page is that of qmtd_encode for the data with the last place of each block
+ * replaced so that the block sums to 0, whatever is lent there. With at most t symbols replaced decode gives the data
+ * back and makes no outer step; with many replaced the outer steps are those of their definition. Returns these. */
+static uint32_t outer_of(uint32_t q, uint32_t k, uint32_t b, const uint8_t *table, uint32_t table_len,
+                         const uint8_t *data_lent, uint32_t t, const uint8_t *list, uint32_t list_len)
+{
+    static uint8_t sent[QMTD_MAX_DATA], back[QMTD_MAX_DATA], s[QMTD_MAX_K], d[QMTD_MAX_DATA];
+    static uint8_t encoded[QMTD_MAX_PAGE_LEN], received[QMTD_MAX_PAGE_LEN], m[QMTD_MARGINS_LEN(QMTD_MAX_DATA, 1)];
+    const uint32_t n = QMTD_DATA_LEN(k, b), page_len = QMTD_PAGE_LEN(k, b), block = some_block(n);
+    uint8_t c[QMTD_COUNTS_LEN];
+    const struct decoded decoded = {back, s, d, m, c};
+    uint32_t steps = 0;
+    memcpy(sent, data_lent, n);
+    for (uint32_t first = 0; first < n; first += block) {
+        uint32_t sum = 0;
+        for (uint32_t i = first; i < first + block - 1; i++)
+            sum += sent[i];
+        sent[first + block - 1] = (uint8_t)((q - sum % q) % q);
+    }
+    EXPECT(qmtd_encode(q, k, b, table, table_len, sent, n, encoded, page_len) == QMTD_OK);
+    memset(received, 0xEE, page_len);
+    EXPECT(qmtd_encode_outer(q, k, b, table, table_len, 1, data_lent, n, received, page_len) == QMTD_BAD_BLOCK);
+    EXPECT(all(received, page_len, 0xEE));
+    EXPECT(qmtd_encode_outer(q, k, b, table, table_len, block, data_lent, n, received, page_len) == QMTD_OK);
+    EXPECT(memcmp(received, encoded, page_len) == 0);
+
+    for (int many = 0; many < 2; many++) {
+        memcpy(received, encoded, page_len);
+        replace(q, received, page_len, many ? page_len / 8 + 1 : t);
+        EXPECT(qmtd_decode(q, k, b, table, table_len, received, page_len, list, list_len, back, n, s, k, d, n,
+                           m, QMTD_MARGINS_LEN(k, b), c, sizeof c) == QMTD_OK);
+        steps = outer_as(q, k, b, table, table_len, block, received, list, list_len, decoded);
+        if (!many)
+            EXPECT(steps == 0 && memcmp(back, sent, n) == 0);
+    }
+    return steps;
+}
+
 /* At most t of a page's symbols replaced, 2 * t + (smallest threshold) <= J: decode gives the data back, wherever the
- * smallest stands in the list and whatever the others are, and so do its passes made one by one, and decode with
- * counters. The distance at the end is that of the page encoded from the result, and the margins are those of the
- * syndrome and the difference handed back. */
-static void recovery_of(uint32_t q, uint32_t k, uint32_t b, const uint8_t *table, uint32_t j, int rounds)
+ * smallest stands in the list and whatever the others are, and so do its passes made one by one, decode with counters,
+ * and decode with an outer check where the data kept the outer rule. The distance at the end is that of the page
+ * encoded from the result, and the margins are those of the syndrome and the difference handed back. Returns the outer
+ * steps made. */
+static uint32_t recovery_of(uint32_t q, uint32_t k, uint32_t b, const uint8_t *table, uint32_t j, int rounds)
 {
     static uint8_t sent[QMTD_MAX_DATA], back[QMTD_MAX_DATA], s[QMTD_MAX_K], d[QMTD_MAX_DATA];
     static uint8_t encoded[QMTD_MAX_PAGE_LEN], received[QMTD_MAX_PAGE_LEN], again[QMTD_MAX_PAGE_LEN];
     static uint8_t m[QMTD_MARGINS_LEN(QMTD_MAX_DATA, 1)];
     const uint32_t table_len = QMTD_TABLE_LEN(b, j), n = QMTD_DATA_LEN(k, b), page_len = QMTD_PAGE_LEN(k, b);
+    uint32_t steps = 0;
     while (rounds-- > 0) {
         for (uint32_t i = 0; i < n; i++)
             sent[i] = (uint8_t)below(q);
@@ -755,8 +1011,7 @@ static void recovery_of(uint32_t q, uint32_t k, uint32_t b, const uint8_t *table
         list[below(list_len)] = (uint8_t)smallest;
         uint32_t replaced = 0;
         memcpy(received, encoded, page_len);
-        for (uint32_t t = (j - smallest) / 2; t > 0; t--)
-            received[below(page_len)] = (uint8_t)below(q);
+        replace(q, received, page_len, (j - smallest) / 2);
         for (uint32_t i = 0; i < page_len; i++)
             replaced += received[i] != encoded[i];
 
@@ -777,8 +1032,11 @@ static void recovery_of(uint32_t q, uint32_t k, uint32_t b, const uint8_t *table
         const struct decoded decoded = {back, s, d, m, c};
         passes_of(q, k, b, table, table_len, received, list, list_len, decoded);
         counted_as(q, k, b, table, table_len, received, list, list_len, decoded);
+        steps += outer_as(q, k, b, table, table_len, some_block(n), received, list, list_len, decoded);
+        steps += outer_of(q, k, b, table, table_len, sent, (j - smallest) / 2, list, list_len);
     }
     passes_on_any(q, k, b, table, j);
+    return steps;
 }
 
 static void recovery(void)
@@ -788,24 +1046,26 @@ static void recovery(void)
     static const uint8_t k_4096[] = {0, 0, 1, 0, 6, 0, 10, 0, 23, 0, 26, 0, 34, 0, 41, 0, 53, 0, 55, 0};
     static const uint8_t pairs[] = {0, 0, 1, 0, 0, 0, 2, 0, 0, 0, 3, 0, 0, 0, 4, 0,
                                     0, 0, 5, 0, 0, 0, 6, 0, 0, 0, 7, 0, 0, 0, 8, 0};
-    recovery_of(3, 7, 1, k_7, 3, 50);
-    recovery_of(256, 7, 1, k_7, 3, 50);
-    recovery_of(3, K, 1, table_a, J, 100);
-    recovery_of(10, K, 1, table_a, J, 100);
-    recovery_of(256, K, 1, table_a, J, 100);
-    recovery_of(5, 57, 1, k_57, 8, 100);
-    recovery_of(251, 57, 1, k_57, 8, 100);
-    recovery_of(129, 4096, 1, k_4096, 10, 3);
-    recovery_of(256, 4096, 1, k_4096, 10, 3);
+    uint32_t steps = 0;
+    steps += recovery_of(3, 7, 1, k_7, 3, 50);
+    steps += recovery_of(256, 7, 1, k_7, 3, 50);
+    steps += recovery_of(3, K, 1, table_a, J, 100);
+    steps += recovery_of(10, K, 1, table_a, J, 100);
+    steps += recovery_of(256, K, 1, table_a, J, 100);
+    steps += recovery_of(5, 57, 1, k_57, 8, 100);
+    steps += recovery_of(251, 57, 1, k_57, 8, 100);
+    steps += recovery_of(129, 4096, 1, k_4096, 10, 3);
+    steps += recovery_of(256, 4096, 1, k_4096, 10, 3);
 
-    recovery_of(3, K, 2, table_2, 3, 100);
-    recovery_of(256, K, 2, table_2, 3, 100);
-    recovery_of(5, 40, 3, table_3, 4, 100);
-    recovery_of(251, 40, 3, table_3, 4, 100);
+    steps += recovery_of(3, K, 2, table_2, 3, 100);
+    steps += recovery_of(256, K, 2, table_2, 3, 100);
+    steps += recovery_of(5, 40, 3, table_3, 4, 100);
+    steps += recovery_of(251, 40, 3, table_3, 4, 100);
     for (uint32_t b = QMTD_MIN_B; b <= QMTD_MAX_B; b++) {
-        recovery_of(10, 17, b, pairs, 2, 20);
-        recovery_of(256, QMTD_MAX_DATA / b, b, pairs, 2, 2);
+        steps += recovery_of(10, 17, b, pairs, 2, 20);
+        steps += recovery_of(256, QMTD_MAX_DATA / b, b, pairs, 2, 2);
     }
+    EXPECT(steps > 1000);
 }
 
 /* b outside its limits: 10, after 1 and 2 and before all else; nothing is divided by it and no product with k wraps. */
@@ -839,6 +1099,12 @@ static void branches(void)
                QMTD_BAD_BRANCHES);
         EXPECT(qmtd_decode_counters(5, K, b, NULL, 0, NULL, 0, NULL, 0, NULL, 0, NULL, 0, NULL, 0, NULL, 0, NULL, 0,
                                     NULL, 0) == QMTD_BAD_BRANCHES);
+        EXPECT(qmtd_encode_outer(5, K, b, table_a, n, K, data, K, page, sizeof page) == QMTD_BAD_BRANCHES);
+        EXPECT(qmtd_encode_outer(5, K, b, NULL, 0, 0, NULL, 0, NULL, 0) == QMTD_BAD_BRANCHES);
+        EXPECT(qmtd_decode_outer(5, K, b, table_a, n, K, page, sizeof page, thresholds, 2, result, K, syndrome, K,
+                                 difference, K, margins, sizeof margins, counts, sizeof counts) == QMTD_BAD_BRANCHES);
+        EXPECT(qmtd_decode_outer(5, K, b, NULL, 0, 0, NULL, 0, NULL, 0, NULL, 0, NULL, 0, NULL, 0, NULL, 0, NULL, 0) ==
+               QMTD_BAD_BRANCHES);
         EXPECT(qmtd_open(5, K, b, table_a, n, page, sizeof page, result, K, syndrome, K, difference, K) ==
                QMTD_BAD_BRANCHES);
         EXPECT(qmtd_open(5, K, b, NULL, 0, NULL, 0, NULL, 0, NULL, 0, NULL, 0) == QMTD_BAD_BRANCHES);
@@ -878,8 +1144,10 @@ int main(void)
     null_in_open_and_pass();
     null_in_explain();
     null_in_decode_counters();
+    null_in_outer();
     counts_length();
     counters_lent();
+    block_lengths();
     odd_table();
     names();
     margin_bytes();

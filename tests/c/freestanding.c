@@ -30,11 +30,19 @@ static const uint8_t data[K] = {[0] = 10, [12] = 250};
 static const uint8_t code_word[2 * K] = {
     [0] = 10, [12] = 250,
     [K + 0] = 4, [K + 1] = 10, [K + 4] = 10, [K + 6] = 10, [K + 3] = 250, [K + 5] = 250, [K + 12] = 250};
+/* The same data in one block of K symbols, whose last is then such that the block sums to 0. */
+static const uint8_t outer_word[2 * K] = {
+    [0] = 10, [12] = 246,
+    [K + 1] = 10, [K + 4] = 10, [K + 6] = 10, [K + 3] = 246, [K + 5] = 246, [K + 12] = 246};
 static const uint8_t received[2 * K] = {7, 3};
 static const uint8_t thresholds[] = {0, 0};
 static const uint8_t expected_difference[K] = {249, 253};
 static const uint8_t expected_counts[QMTD_COUNTS_LEN] = {[0] = 2, [4] = 2, [8] = 7, [12] = 2};
 static const uint8_t expected_changes[QMTD_CHANGES_LEN] = {2};
+/* Case 10: symbol 0 is changed, though it was right, and the outer step takes that back. */
+static const uint8_t checks_received[2 * K] = {[K + 0] = 251, [K + 1] = 251, [K + 4] = 251};
+static const uint8_t outer_syndrome[K] = {[0] = 5, [1] = 5, [4] = 5};
+static const uint8_t outer_counts[QMTD_COUNTS_LEN] = {[0] = 2, [4] = 2, [8] = 3, [12] = 3};
 /* Of symbol 0, whose estimates are 0, 7, 10, 7, 7. */
 static const uint8_t expected_answer[QMTD_ANSWER_LEN] = {[0] = QMTD_GROUND_CHANGE, [4] = 7, [8] = 3, [12] = 1, [16] = 26};
 
@@ -62,6 +70,13 @@ static uint32_t decode_counters(void)
                                 margins, sizeof margins, counters, sizeof counters, counts, sizeof counts);
 }
 
+static uint32_t decode_outer(uint32_t block)
+{
+    return qmtd_decode_outer(256, K, 1, table, sizeof table, block, checks_received, sizeof checks_received,
+                             thresholds, sizeof thresholds, result, K, syndrome, K, difference, K,
+                             margins, sizeof margins, counts, sizeof counts);
+}
+
 static uint32_t pass(uint32_t threshold)
 {
     return qmtd_pass(256, K, 1, table, sizeof table, threshold, result, K, syndrome, K, difference, K,
@@ -84,6 +99,12 @@ static int decoded(void)
             return 0;
     return same(result, zeros, K) && same(syndrome, zeros, K) && same(difference, expected_difference, K) &&
            same(counts, expected_counts, sizeof counts);
+}
+
+static int decoded_outer(void)
+{
+    return same(result, zeros, K) && same(syndrome, outer_syndrome, K) && same(difference, zeros, K) &&
+           same(counts, outer_counts, sizeof counts) && qmtd_margin(margins, 0) == -1 && qmtd_margin(margins, 2) == 5;
 }
 
 int run(void);
@@ -124,5 +145,12 @@ int run(void)
     counters[255] = 1;
     if (decode_counters() != QMTD_BAD_LENGTH || !decoded() || counters[255] != 1)
         return 12;
+    if (qmtd_encode_outer(256, K, 1, table, sizeof table, K, data, K, page, sizeof page) != QMTD_OK ||
+        !same(page, outer_word, sizeof page) ||
+        qmtd_encode_outer(256, K, 1, table, sizeof table, 2, data, K, page, sizeof page) != QMTD_BAD_BLOCK ||
+        !same(page, outer_word, sizeof page))
+        return 13;
+    if (decode_outer(K) != QMTD_OK || !decoded_outer() || decode_outer(1) != QMTD_BAD_BLOCK || !decoded_outer())
+        return 14;
     return 0;
 }

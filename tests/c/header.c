@@ -12,6 +12,9 @@ typedef uint32_t syndrome_call(uint32_t, uint32_t, uint32_t, READ, READ, LENT);
 typedef uint32_t decode_call(uint32_t, uint32_t, uint32_t, READ, READ, READ, LENT, LENT, LENT, LENT, LENT);
 typedef uint32_t decode_counters_call(uint32_t, uint32_t, uint32_t, READ, READ, READ, LENT, LENT, LENT, LENT, LENT,
                                       LENT);
+typedef uint32_t encode_outer_call(uint32_t, uint32_t, uint32_t, READ, uint32_t, READ, LENT);
+typedef uint32_t decode_outer_call(uint32_t, uint32_t, uint32_t, READ, uint32_t, READ, READ, LENT, LENT, LENT, LENT,
+                                   LENT);
 typedef uint32_t open_call(uint32_t, uint32_t, uint32_t, READ, READ, LENT, LENT, LENT);
 typedef uint32_t pass_call(uint32_t, uint32_t, uint32_t, READ, uint32_t, LENT, LENT, LENT, LENT);
 typedef uint32_t explain_call(uint32_t, uint32_t, uint32_t, READ, uint32_t, uint32_t, READ, READ, READ, LENT);
@@ -24,6 +27,8 @@ extern const struct calls {
     syndrome_call *syndrome;
     decode_call *decode;
     decode_counters_call *decode_counters;
+    encode_outer_call *encode_outer;
+    decode_outer_call *decode_outer;
     open_call *open;
     pass_call *pass;
     explain_call *explain;
@@ -31,4 +36,5 @@ extern const struct calls {
 } calls;
 
 const struct calls calls = {qmtd_version, qmtd_check_table, qmtd_encode, qmtd_syndrome, qmtd_decode,
-                            qmtd_decode_counters, qmtd_open, qmtd_pass, qmtd_explain, qmtd_margin};
+                            qmtd_decode_counters, qmtd_encode_outer, qmtd_decode_outer, qmtd_open, qmtd_pass,
+                            qmtd_explain, qmtd_margin};

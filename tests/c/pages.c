@@ -11,7 +11,7 @@
 #include <stdlib.h>
 #include <string.h>
 
-enum { MAX_NUMBERS = 8, MAX_PIECES = 10, GUARD_LEN = 64, GUARD = 0xC3 };
+enum { MAX_RECORD = 40960, MAX_NUMBERS = 8, MAX_PIECES = 10, GUARD_LEN = 64, GUARD = 0xC3 };
 enum { GIVES_BEFORE = 1, GIVES_AFTER = 2 };
 
 /* One piece of lent memory: what it holds before the call and must hold after it, null where the page does not say. */
@@ -65,6 +65,17 @@ static uint32_t decode_counters(const uint32_t *n, const struct piece *p)
                                 LENT(p[5]), LENT(p[6]), LENT(p[7]), LENT(p[8]));
 }
 
+static uint32_t encode_outer(const uint32_t *n, const struct piece *p)
+{
+    return qmtd_encode_outer(n[0], n[1], n[2], LENT(p[0]), n[3], LENT(p[1]), LENT(p[2]));
+}
+
+static uint32_t decode_outer(const uint32_t *n, const struct piece *p)
+{
+    return qmtd_decode_outer(n[0], n[1], n[2], LENT(p[0]), n[3], LENT(p[1]), LENT(p[2]), LENT(p[3]), LENT(p[4]),
+                             LENT(p[5]), LENT(p[6]), LENT(p[7]));
+}
+
 /* The calls by their number in the file: name, how many numbers each takes, the names of its pieces, the call itself.
  * Number 0 is no call: it opens a group, whose name is the piece. */
 static const struct call {
@@ -83,6 +94,9 @@ static const struct call {
     {"explain", 5, {"table", "result", "syndrome", "difference", "answer"}, explain},
     {"decode_counters", 3, {"table", "page", "thresholds", "result", "syndrome", "difference", "margins", "counters",
                             "counts"}, decode_counters},
+    {"encode_outer", 4, {"table", "data", "page"}, encode_outer},
+    {"decode_outer", 4, {"table", "page", "thresholds", "result", "syndrome", "difference", "margins", "counts"},
+     decode_outer},
 };
 enum { OPEN_GROUP = 0, DECODE = 4, DECODE_COUNTERS = 8, CALLS = sizeof calls / sizeof calls[0] };
 
@@ -93,7 +107,7 @@ struct record {
     struct piece pieces[MAX_PIECES];
 };
 
-/* What is left to read; `bad` once it was not enough. */
+/* What is left to read of a record; `bad` once it was not enough. */
 struct reader {
     const uint8_t *next;
     size_t left;
@@ -127,13 +141,15 @@ static void take_piece(struct reader *reader, struct piece *piece)
     piece->after = gives & GIVES_AFTER ? take(reader, piece->len) : NULL;
 }
 
-/* Takes the next record of the file. Is it one, of a call that is known here? */
-static int take_record(struct reader *file, struct record *record)
+/* Takes a record of this length from the file, kept until the next one. Is it one, of a call that is known here? */
+static int take_record(FILE *file, size_t len, struct record *record)
 {
-    size_t len = take_number(file);
-    struct reader reader = {take(file, len), len, file->bad};
+    static uint8_t bytes[MAX_RECORD];
+    if (len > sizeof bytes || fread(bytes, 1, len, file) != len)
+        return 0;
+    struct reader reader = {bytes, len, 0};
     uint32_t call = take_number(&reader);
-    if (file->bad || reader.bad || call >= CALLS)
+    if (reader.bad || call >= CALLS)
         return 0;
     *record = (struct record){.call = &calls[call], .number = take_number(&reader)};
     while (record->call->pieces[record->piece_count] != NULL)
@@ -260,39 +276,23 @@ static void run_page(struct group *group, struct record *record)
     group->run++;
 }
 
-static uint8_t *read_file(const char *name, size_t *len)
-{
-    FILE *file = fopen(name, "rb");
-    if (file == NULL || fseek(file, 0, SEEK_END) != 0)
-        return NULL;
-    long end = ftell(file);
-    if (end <= 0)
-        return NULL;
-    rewind(file);
-    uint8_t *bytes = malloc((size_t)end);
-    if (bytes == NULL || fread(bytes, 1, (size_t)end, file) != (size_t)end)
-        return NULL;
-    fclose(file);
-    *len = (size_t)end;
-    return bytes;
-}
-
 int main(int argc, char **argv)
 {
-    size_t len = 0;
-    uint8_t *bytes = argc > 1 ? read_file(argv[1], &len) : NULL;
+    FILE *file = argc > 1 ? fopen(argv[1], "rb") : NULL;
     unsigned long stride = argc > 2 ? strtoul(argv[2], NULL, 10) : 1;
-    if (bytes == NULL || stride == 0) {
+    if (file == NULL || stride == 0) {
         fprintf(stderr, "pages FILE [STRIDE]\n");
         return 2;
     }
     setvbuf(stdout, NULL, _IONBF, 0); /* what was found is shown even if the archive crashes the program */
 
-    struct reader file = {bytes, len, 0};
     struct group group = {.pages = 0}, all = {.pages = 0};
-    while (file.left > 0) {
+    uint8_t bytes[4];
+    size_t read;
+    while ((read = fread(bytes, 1, sizeof bytes, file)) > 0) {
+        struct reader length = {bytes, read, 0};
         struct record record;
-        if (!take_record(&file, &record)) {
+        if (!take_record(file, take_number(&length), &record)) {
             printf("%s: the record after page %lu is malformed, or of a call that is not known here\n",
                    group.name, group.pages);
             return 1;
@@ -305,7 +305,7 @@ int main(int argc, char **argv)
         }
     }
     close_group(&group, &all);
-    free(bytes);
+    fclose(file);
     printf("%lu pages, %lu wrong\n", all.run, all.wrong);
     return all.wrong == 0 && all.run > 0 ? 0 : 1;
 }

@@ -6,7 +6,8 @@
 #include <stdio.h>
 #include <string.h>
 
-enum { K = QMTD_MAX_K, N = QMTD_MAX_DATA, PAIRS_K = N / QMTD_MAX_B, STACK = 65536, FILL = 0xA7, ALLOWED = 9216 };
+enum { K = QMTD_MAX_K, N = QMTD_MAX_DATA, PAIRS_K = N / QMTD_MAX_B, BLOCK = 16 };
+enum { STACK = 65536, FILL = 0xA7, ALLOWED = 9216 };
 
 /* One branch: a Golomb ruler of 10 marks. Eight branches: two positions each. */
 static const uint8_t ruler[] = {0, 0, 1, 0, 6, 0, 10, 0, 23, 0, 26, 0, 34, 0, 41, 0, 53, 0, 55, 0};
@@ -35,6 +36,12 @@ static void check_table(void)
     number = qmtd_check_table(CODE);
 }
 
+/* Before encode, which writes the page anew. */
+static void encode_outer(void)
+{
+    number = qmtd_encode_outer(CODE, BLOCK, data, N, page, N + code->k);
+}
+
 static void encode(void)
 {
     number = qmtd_encode(CODE, data, N, page, N + code->k);
@@ -56,6 +63,13 @@ static void decode_counters(void)
     number = qmtd_decode_counters(CODE, page, N + code->k, thresholds, sizeof thresholds, result, N, syndrome, code->k,
                                   difference, N, margins, sizeof margins, counters, sizeof counters,
                                   counts, sizeof counts);
+}
+
+/* The data did not keep the outer rule, so that there are steps in many blocks. */
+static void decode_outer(void)
+{
+    number = qmtd_decode_outer(CODE, BLOCK, page, N + code->k, thresholds, sizeof thresholds, result, N,
+                               syndrome, code->k, difference, N, margins, sizeof margins, counts, sizeof counts);
 }
 
 static void open_page(void)
@@ -126,9 +140,9 @@ int main(void)
     static const struct {
         const char *name;
         void (*call)(void);
-    } calls[] = {{"check_table", check_table}, {"encode", encode}, {"syndrome", work_out_syndrome},
-                 {"decode", decode}, {"decode_counters", decode_counters}, {"open", open_page}, {"pass", pass},
-                 {"explain", explain}};
+    } calls[] = {{"check_table", check_table}, {"encode_outer", encode_outer}, {"encode", encode},
+                 {"syndrome", work_out_syndrome}, {"decode", decode}, {"decode_counters", decode_counters},
+                 {"decode_outer", decode_outer}, {"open", open_page}, {"pass", pass}, {"explain", explain}};
     int wrong = 0;
     size_t around = used_by(idle);
     for (size_t i = 0; i < N; i++)

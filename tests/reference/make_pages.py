@@ -15,7 +15,8 @@ from pathlib import Path
 import reference as ref
 import screen
 from codes import LINES, SINGER, WIDEST, Random, greedy, greedy_runs, positions_for, runs_for, singer
-from records import CHECK_TABLE, DECODE, DECODE_COUNTERS, ENCODE, EXPLAIN, OPEN, PASS, SYNDROME, Pages
+from records import (CHECK_TABLE, DECODE, DECODE_COUNTERS, DECODE_OUTER, ENCODE, ENCODE_OUTER, EXPLAIN, OPEN, PASS,
+                     SYNDROME, Pages)
 
 ROOT = Path(__file__).resolve().parent.parent.parent
 CRATE = ROOT / "crates" / "reference"
@@ -726,13 +727,14 @@ def branches_lengths(pages, random):
 # The refusals of each call, in the order in which they are tested.
 ORDER = (1, 2, 10, 3, 4, 5, 6, 7, 8, 9)
 REFUSALS = {CHECK_TABLE: ORDER[:6], ENCODE: ORDER[:8], SYNDROME: ORDER[:8], DECODE: ORDER, OPEN: ORDER[:8],
-            PASS: ORDER[:8] + (9,), EXPLAIN: ORDER[:8] + (9, 11)}
+            PASS: ORDER[:8] + (9,), EXPLAIN: ORDER[:8] + (9, 11), ENCODE_OUTER: ORDER[:8] + (12,),
+            DECODE_OUTER: ORDER + (12,)}
 
 
 def spoiled_branches(call, met):
     """The tests and the arguments of a call with two branches, or nine, that meets these refusals. k is 40 and the runs
     are 0, d for d from 1 up. With refusal 2 k is 4,097 and the lengths are still those of 40, so that 6 is met too. In a
-    pass and an explanation 6 and 7 are met by D."""
+    pass and an explanation 6 and 7 are met by D. Blocks are of 2 symbols, with refusal 12 of 7."""
     q = 2 if 1 in met else 5
     b = 9 if 10 in met else 2
     runs = [[0, d] for d in range(1, b + 1)]
@@ -743,7 +745,7 @@ def spoiled_branches(call, met):
     if 4 in met:
         runs[-1] = runs[-1][:-2] + runs[-1][:-3:-1]
     k, lengths_k = (4097 if 2 in met else 40), 40
-    length = (b if call in (ENCODE, PASS, EXPLAIN) else b + 1) * lengths_k - (1 if 6 in met else 0)
+    length = (b if call in (ENCODE, ENCODE_OUTER, PASS, EXPLAIN) else b + 1) * lengths_k - (1 if 6 in met else 0)
     symbols = [0] * length
     if 7 in met:
         symbols[-7] = 5
@@ -756,6 +758,9 @@ def spoiled_branches(call, met):
     if call == ENCODE:
         page_len = (b + 1) * lengths_k
         return ref.encode_tests(*code, symbols, page_len), (*code, symbols), {"page_len": page_len}
+    if call == ENCODE_OUTER:
+        page_len, arguments = (b + 1) * lengths_k, (*code, 7 if 12 in met else 2, symbols)
+        return ref.encode_outer_tests(*arguments, page_len), arguments, {"page_len": page_len}
     if call == SYNDROME:
         return ref.syndrome_tests(*code, symbols, lengths_k), (*code, symbols), {"syndrome_len": lengths_k}
     if call == OPEN:
@@ -769,18 +774,31 @@ def spoiled_branches(call, met):
                      symbols)
         return ref.explain_tests(*arguments, 24), arguments, {}
     lengths = ref.decode_lengths(lengths_k, b)
+    if call == DECODE_OUTER:
+        arguments = (*code, 7 if 12 in met else 2, symbols, thresholds)
+        return ref.decode_outer_tests(*arguments, *lengths), arguments, {"lengths": lengths}
     return (ref.decode_tests(*code, symbols, thresholds, *lengths), (*code, symbols, thresholds),
             {"lengths": lengths})
 
 
-def refused_in_pairs(call, add):
-    """As the group of refusals in pairs, with 10 in its place."""
-    numbers = REFUSALS[call]
-    for met in list(itertools.combinations(numbers, 2)) + [numbers[a:] for a in range(len(numbers) - 2)]:
+def refused_by_first(call, add, sets):
+    """For each set of refusals a call that meets them; the first of the set is returned."""
+    for met in sets:
         tests, arguments, lengths = spoiled_branches(call, met)
         applies = [number for number, test in tests if test()]
         assert set(met) <= set(applies) and applies[0] == met[0]
         add(*arguments, **lengths, expect=met[0])
+
+
+def with_all_after(call):
+    """Each refusal of a call, but the last two, with all that come after it."""
+    numbers = REFUSALS[call]
+    return [numbers[a:] for a in range(len(numbers) - 2)]
+
+
+def refused_in_pairs(call, add):
+    """As the group of refusals in pairs, with 10 in its place."""
+    refused_by_first(call, add, list(itertools.combinations(REFUSALS[call], 2)) + with_all_after(call))
 
 
 @group("branches, refusals in pairs and all together")
@@ -1889,6 +1907,331 @@ def counters_c_only(pages, random):
         for counters in (ref.ZEROED, amiss):
             pages.decode_counters(5, 13, 1, ref.CODE_A, [0] * 26, [0], lengths=(13, 13, 13, length), counters=counters,
                                   expect=6)
+
+
+# The outer check (request N8)
+
+def lengths_of(n):
+    """The block lengths that so many data symbols can have."""
+    return [length for length in range(2, n + 1) if n % length == 0]
+
+
+def sent_outer(random, code, runs, length):
+    """Random data that keeps the outer rule, and its page."""
+    q, k, b, _ = code
+    data = ref.outer_word(q, length, random.symbols(q, b * k))
+    return data, ref.code_word(q, k, runs, data)
+
+
+def with_syndrome(q, k, runs, data, s):
+    """The page with this data on which S is s."""
+    n = len(data)
+    checks = ref.code_word(q, k, runs, data)[n:]
+    return list(data) + [(check - x) % q for check, x in zip(checks, s)]
+
+
+@group("outer checks, encode")
+def outer_encode(pages, random):
+    for q, k, b, j, length in ((3, 2, 1, 1, 2), (256, 2, 1, 1, 2), (10, 4, 1, 1, 2), (129, 7, 1, 3, 7),
+                               (251, 13, 1, 4, 13), (4, 16, 1, 4, 4), (255, 24, 1, 4, 8), (256, 57, 1, 8, 19),
+                               (128, 133, 1, 12, 7), (200, 64, 1, 7, 32), (17, 100, 1, 5, 50), (256, 307, 1, 18, 307),
+                               (256, 1, 8, 1, 8), (5, 1, 8, 1, 2), (251, 13, 2, 3, 2), (7, 17, 8, 2, 17)):
+        code, _ = some_code(random, q, k, b, j)
+        pages.encode_outer(*code, length, random.symbols(q, b * k), expect=0)
+    # Every length that 30 symbols, in two branches, can have.
+    code, _ = some_code(random, 256, 15, 2, 3)
+    for length in lengths_of(30):
+        pages.encode_outer(*code, length, random.symbols(256, 30), expect=0)
+    # The largest sums, and none.
+    for q, k, j, length in ((256, 40, 5, 40), (129, 60, 6, 20)):
+        code, _ = some_code(random, q, k, 1, j)
+        for symbol in (q - 1, 0):
+            pages.encode_outer(*code, length, [symbol] * k, expect=0)
+    code, _ = some_code(random, 251, 4096, 1, 10)
+    pages.encode_outer(*code, 4096, [250] * 4096, expect=0)
+
+
+@group("outer checks, what is lent at the last places")
+def outer_last_places(pages, random):
+    """The page hangs on the other places alone. q and more is refused there too."""
+    for q, k, b, j, length in ((251, 16, 1, 4, 4), (256, 16, 1, 4, 2), (3, 15, 2, 3, 6)):
+        code, _ = some_code(random, q, k, b, j)
+        data = random.symbols(q, b * k)
+        word = ref.outer_word(q, length, data)
+        last = range(length - 1, b * k, length)
+        for lent in (word, [0] * (b * k), [q - 1] * (b * k), [q - 1 - symbol for symbol in word]):
+            given = [lent[i] if i in last else symbol for i, symbol in enumerate(data)]
+            assert pages.encode_outer(*code, length, given, expect=0)[:b * k] == word
+        for place, symbol in itertools.product((last[0], last[-1]), (q, 255) if q < 255 else ()):
+            pages.encode_outer(*code, length, [symbol if i == place else x for i, x in enumerate(word)], expect=7)
+
+
+@group("outer checks, decode, clean pages")
+def outer_clean(pages, random):
+    for q, k, b, j, length in ((3, 2, 1, 1, 2), (256, 7, 1, 3, 7), (251, 16, 1, 4, 4), (4, 24, 1, 4, 12),
+                               (129, 57, 1, 8, 3), (256, 60, 1, 6, 30), (10, 15, 2, 3, 10), (256, 40, 3, 4, 15),
+                               (3, 17, 8, 2, 136)):
+        code, runs = some_code(random, q, k, b, j)
+        data, page = sent_outer(random, code, runs, length)
+        thresholds = random.pick(([0], [3, 2, 0], [32, 32], [1, 0, 0]))
+        got = pages.decode_outer(*code, length, page, thresholds, expect=0)
+        assert got.result == data and got.counts == (len(ref.strict_minima(thresholds)), 0, 0, 0)
+
+
+@group("outer checks, code words that break the rule")
+def outer_broken(pages, random):
+    """On a code word all reliabilities are J + 1, so that there is no step whatever the blocks sum to."""
+    for q, k, b, j, length in ((3, 2, 1, 1, 2), (256, 16, 1, 4, 2), (251, 16, 1, 4, 16), (10, 24, 1, 4, 3),
+                               (256, 57, 1, 8, 19), (5, 15, 2, 3, 6), (256, 17, 8, 2, 8), (129, 1, 8, 1, 4)):
+        code, runs = some_code(random, q, k, b, j)
+        data = random.symbols(q, b * k)
+        while any(ref.block_sum(q, data, block) == 0 for block in ref.blocks(length, b * k)):
+            data = random.symbols(q, b * k)
+        got = pages.decode_outer(*code, length, ref.code_word(q, k, runs, data), [1, 0], expect=0)
+        assert got.result == data and got.counts == (2, 0, 0, 0)
+    # The last symbol alone breaks it, and the first.
+    for place, length in ((15, 16), (3, 4), (0, 2), (12, 4)):
+        word = ref.encode(*ref.K_16, ref.symbols(16, {place: 9}), 32)[1]
+        assert pages.decode_outer(*ref.K_16, length, word, [0], expect=0).counts == (1, 0, 0, 0)
+
+
+@group("outer checks, damage inside the bound")
+def outer_inside(pages, random):
+    """As much as the smallest threshold allows: the data comes back, the last symbols of blocks too, and no step is
+    made."""
+    for q, k, b, j, length, least in (
+            (3, 16, 1, 4, 2, 0), (256, 16, 1, 4, 16, 0), (251, 24, 1, 4, 6, 1), (10, 13, 1, 4, 13, 2),
+            (256, 57, 1, 8, 3, 0), (5, 57, 1, 8, 57, 2), (128, 60, 1, 6, 10, 0), (256, 64, 1, 7, 8, 1),
+            (129, 133, 1, 12, 19, 0), (256, 15, 2, 3, 10, 0), (3, 15, 2, 3, 3, 1), (251, 40, 3, 4, 24, 0),
+            (256, 40, 3, 4, 120, 1), (4, 17, 8, 2, 34, 0), (256, 7, 1, 2, 7, 0)):
+        code, runs = some_code(random, q, k, b, j)
+        data, page = sent_outer(random, code, runs, length)
+        replaced = (j - least) // 2
+        page = damaged(random, q, page, branch_places(k, b, replaced, random))
+        got = pages.decode_outer(*code, length, page, [least + 2, least, least], expect=0)
+        assert got.result == data and not got.steps and got.counts.end == replaced
+    # Last symbols alone, and a block's first and last.
+    for places in ((3, 7), (0, 3), (15, 12)):
+        data, page = sent_outer(random, ref.K_16, [[0, 1, 4, 6]], 4)
+        got = pages.decode_outer(*ref.K_16, 4, damaged(random, 256, page, places), [0, 0], expect=0)
+        assert got.result == data and not got.steps and got.counts.changes == 2
+
+
+@group("outer steps by hand")
+def outer_by_hand(pages, random):
+    for data, s, length, steps in ref.OUTER_STEPS:
+        assert pages.decode_outer(*ref.K_16, length, ref.page_16(data, s), [32], expect=0).steps == steps
+    # The page of case 10: a change that was wrong, and the step that takes it back.
+    page = [0] * 16 + ref.symbols(16, {0: 251, 1: 251, 4: 251})
+    for length in (2, 4, 16):
+        got = pages.decode_outer(*ref.K_16, length, page, [0], expect=0)
+        assert got.steps == [(0, 251, 1)] and got.counts == (1, 2, 3, 3) and got.result == [0] * 16
+
+
+def drawn_blocks(random, code, runs):
+    """Data and a page on which S is drawn too: about half of it is 0, and the others are often one value, which many
+    data symbols have."""
+    q, k, b, _ = code
+    value = 1 + random.below(q - 1)
+    s = [random.pick((0, 0, value, random.below(q))) for _ in range(k)]
+    data = [random.pick((0, value)) if random.below(4) else random.below(q) for _ in range(b * k)]
+    return data, with_syndrome(q, k, runs, data, s)
+
+
+def outer_found(pages, code, length, thresholds, drawn, wanted):
+    """Draws data and a page until `wanted` is true of what the decode gives, the page and the data."""
+    _, k, b, _ = code
+    while True:
+        data, page = drawn()
+        if wanted(ref.decode_outer(*code, length, page, thresholds, *ref.decode_lengths(k, b))[1], page, data):
+            return pages.decode_outer(*code, length, page, thresholds, expect=0)
+
+
+def judged(q, k, runs, length, page):
+    """For each block of a page, before any change: what it sums to, and the reliabilities of its symbols by that."""
+    result, s, d = ref.opened(q, k, runs, page)
+    sums = [(block, ref.block_sum(q, result, block)) for block in ref.blocks(length, len(result))]
+    return [(e, [ref.reliability(ref.estimates(k, runs, s, d, j), e) for j in block]) for block, e in sums]
+
+
+# q, k, b, J and block length of codes whose pages are searched for reliabilities.
+SEARCHED = ((3, 16, 1, 4, 8), (256, 16, 1, 4, 16), (251, 24, 1, 4, 6), (256, 57, 1, 8, 19), (10, 31, 1, 6, 31),
+            (4, 15, 2, 3, 10), (256, 20, 3, 2, 12), (256, 12, 1, 1, 4))
+
+
+@group("outer steps, the earliest of the least")
+def outer_ties(pages, random):
+    """In the first block, which has a step, two or more of the symbols but the last have the least reliability, and the
+    block's first symbol has more."""
+    for q, k, b, j, length in SEARCHED:
+        code, runs = some_code(random, q, k, b, j)
+
+        def tied(got, page, data):
+            _, (*others, last) = judged(q, k, runs, length, page)[0]
+            return (bool(got.steps) and got.steps[0].symbol == others.index(min(others)) > 0
+                    and others.count(min(others)) > 1)
+        outer_found(pages, code, length, [32], lambda: drawn_blocks(random, code, runs), tied)
+
+
+@group("outer steps, the last symbol of a block")
+def outer_last(pages, random):
+    """In the first block the least reliability of the others is above that of the last symbol, equal to it, below it by
+    one: a step in the last case alone."""
+    for (q, k, b, j, length), above in itertools.product(SEARCHED, (1, 0, -1)):
+        code, runs = some_code(random, q, k, b, j)
+
+        def so_much_above(got, page, data):
+            e, (*others, last) = judged(q, k, runs, length, page)[0]
+            return e != 0 and min(others) == last + above
+        got = outer_found(pages, code, length, [32], lambda: drawn_blocks(random, code, runs), so_much_above)
+        assert any(step.symbol < length for step in got.steps) == (above < 0)
+
+
+@group("outer steps after changes")
+def outer_changes(pages, random):
+    """Damage outside the bound, on pages whose data kept the rule. The steps put right what the passes left; they leave
+    fewer symbols wrong, or as many, or more; there are none though symbols are wrong."""
+    # By the symbols that are wrong after the steps and those that were wrong before.
+    kinds = (lambda after, before, steps: after == 0 < before,
+             lambda after, before, steps: 0 < after < before,
+             lambda after, before, steps: after == before and steps,
+             lambda after, before, steps: after > before,
+             lambda after, before, steps: after > 0 and not steps)
+    for (q, k, b, j, length, percent, thresholds), kind in itertools.product((
+            (256, 16, 1, 4, 4, 20, [0, 0, 0]), (3, 24, 1, 4, 6, 12, [1, 0, 0]), (251, 57, 1, 8, 19, 20, [2, 1, 0]),
+            (256, 31, 1, 5, 31, 25, [1, 1, 0]), (10, 15, 2, 3, 10, 10, [0, 0]), (256, 20, 3, 2, 6, 5, [0])), kinds):
+        code, runs = some_code(random, q, k, b, j)
+
+        def drawn():
+            data, page = sent_outer(random, code, runs, length)
+            return data, damaged(random, q, page, random.some(range(len(page)), len(page) * percent // 100))
+
+        def of_this_kind(got, page, data):
+            passed = ref.decode(*code, page, thresholds, *ref.decode_lengths(k, b))[1]
+            return kind(ref.distance(got.result, data), ref.distance(passed.result, data), got.steps)
+        got = outer_found(pages, code, length, thresholds, drawn, of_this_kind)
+        assert got.counts.changes == sum(got.changes_of_pass) + len(got.steps)
+
+
+@group("outer steps across branches")
+def outer_across(pages, random):
+    """Block lengths that do not divide k, and one block of all: a step in a block that lies across branches, in its
+    first branch and behind that."""
+    for (q, k, b, j, length), behind in itertools.product((
+            (256, 15, 2, 3, 10), (3, 15, 2, 3, 6), (251, 13, 2, 3, 26), (256, 20, 3, 2, 12), (16, 7, 4, 1, 4),
+            (4, 17, 8, 2, 8)), (False, True)):
+        code, runs = some_code(random, q, k, b, j)
+
+        def across(got, page, data):
+            for step in got.steps:
+                first = step.symbol // length * length
+                if (first + length - 1) // k > first // k and (step.symbol // k > first // k) == behind:
+                    return True
+            return False
+        outer_found(pages, code, length, [0] if behind else [32], lambda: drawn_blocks(random, code, runs), across)
+
+
+@group("outer steps, one block after another")
+def outer_in_order(pages, random):
+    """A step alters what a later block does: fewer steps are made than the reliabilities before all steps call for, or
+    others; and steps in more than half of the blocks."""
+    def called_for(q, k, runs, length, page):
+        """The symbols of the steps, if none altered what a later block gets."""
+        return {at * length + others.index(min(others))
+                for at, (e, (*others, last)) in enumerate(judged(q, k, runs, length, page)) if e and min(others) < last}
+
+    for q, k, b, j, length in ((256, 16, 1, 4, 4), (3, 16, 1, 4, 2), (251, 24, 1, 4, 6), (256, 57, 1, 8, 19),
+                               (4, 15, 2, 3, 5), (129, 20, 3, 2, 6)):
+        code, runs = some_code(random, q, k, b, j)
+        for wanted in (lambda made, due: len(made) < len(due), lambda made, due: not made <= due,
+                       lambda made, due: 2 * len(made) * length > b * k):
+            outer_found(pages, code, length, [32], lambda: drawn_blocks(random, code, runs),
+                        lambda got, page, data: wanted({step.symbol for step in got.steps},
+                                                       called_for(q, k, runs, length, page)))
+
+
+@group("outer checks, heavy damage")
+def outer_heavy(pages, random):
+    """Every symbol random, so that nearly every block does not sum to 0."""
+    steps = 0
+    for q, k, b, j, length, thresholds in (
+            (3, 2, 1, 1, 2, [0]), (3, 7, 1, 3, 7, [0] * 8), (256, 7, 1, 2, 7, [0]), (3, 16, 1, 4, 2, [0] * 16),
+            (4, 16, 1, 4, 8, [1, 0, 0]), (256, 16, 1, 4, 4, [0] * 16), (10, 24, 1, 4, 4, [2, 0]),
+            (251, 57, 1, 8, 3, [0] * 8), (3, 57, 1, 8, 19, [0] * 32), (5, 133, 1, 12, 7, [3, 2, 1, 0]),
+            (256, 64, 1, 7, 2, [0] * 4), (3, 15, 2, 3, 2, [0] * 8), (129, 40, 3, 4, 12, [0] * 4),
+            (7, 17, 8, 2, 4, [0] * 64), (256, 17, 8, 2, 68, [0]), (3, 1, 8, 1, 2, [0, 0]),
+            (3, 993, 1, 32, 331, [0] * 3)):
+        code, _ = some_code(random, q, k, b, j)
+        steps += len(pages.decode_outer(*code, length, random.symbols(q, (b + 1) * k), thresholds, expect=0).steps)
+    assert steps > 50
+
+
+@group("outer checks, the limits of the block length")
+def outer_lengths(pages, random):
+    """Lengths on both sides of 2 and of the number of data symbols; that divide a page and not its data; and that pass
+    where only low bits are looked at."""
+    def asked(code, lengths, number):
+        q, k, b, _ = code
+        for length in lengths:
+            pages.encode_outer(*code, length, [0] * (b * k), expect=number)
+            pages.decode_outer(*code, length, [0] * ((b + 1) * k), [0], expect=number)
+
+    asked(ref.K_16, (2, 16), 0)
+    asked(ref.K_16, (0, 1, 3, 15, 17, 32, 258, 65538, 2 ** 31 + 2, 2 ** 32 - 16, 2 ** 32 - 1), 12)
+    for q, k, b, j, right, other in ((5, 1, 1, 1, (), (1, 2)), (5, 13, 1, 4, (13,), (2,)),
+                                     (5, 15, 2, 3, (30,), (4, 9, 45)), (5, 1, 7, 1, (7,), (2, 8))):
+        code, _ = some_code(random, q, k, b, j)
+        asked(code, right, 0)
+        asked(code, other, 12)
+
+
+@group("outer checks, refusals one by one")
+def outer_one_by_one(pages, random):
+    a = ref.CODE_A
+    for q, k, b, table, number in ((2, 16, 1, a, 1), (257, 16, 1, a, 1), (5, 0, 1, a, 2), (5, 65552, 1, a, 2),
+                                   (5, 16, 0, a, 10), (5, 16, 9, a, 10), (5, 16, 1, b"", 3), (5, 16, 3, a, 3),
+                                   (5, 16, 1, ref.table_of([0, 16]), 4), (5, 12, 1, a, 5),
+                                   (5, 16, 2, ref.table_of([0, 1], [0, 1]), 5)):
+        n = 16 * (b if b in (1, 2) else 1)
+        pages.encode_outer(q, k, b, table, 2, [0] * n, page_len=n + 16, expect=number)
+        pages.decode_outer(q, k, b, table, 2, [0] * (n + 16), [0], lengths=(n, 16, n, 4 * n), expect=number)
+    # 6: each length of a symbol less and one more.
+    right = ref.decode_lengths(16, 1)
+    for more in (-1, 1):
+        pages.encode_outer(5, *ref.K_16[1:], 4, [0] * (16 + more), page_len=32, expect=6)
+        pages.encode_outer(5, *ref.K_16[1:], 4, [0] * 16, page_len=32 + more, expect=6)
+        pages.decode_outer(5, *ref.K_16[1:], 4, [0] * (32 + more), [0], expect=6)
+        for at in range(4):
+            lengths = right[:at] + (right[at] + (4 * more if at == 3 else more),) + right[at + 1:]
+            pages.decode_outer(5, *ref.K_16[1:], 4, [0] * 32, [0], lengths=lengths, expect=6)
+    # 7: at both ends of the data and of the checks. 8, 9: also where no pass comes to the threshold.
+    for place in (0, 15):
+        pages.encode_outer(251, *ref.K_16[1:], 4, ref.symbols(16, {place: 251}), expect=7)
+    for place in (0, 15, 16, 31):
+        pages.decode_outer(251, *ref.K_16[1:], 4, ref.symbols(32, {place: 251}), [0], expect=7)
+    for thresholds, number in (([], 8), ([0] * 65, 8), ([33], 9), ([0, 255], 9), ([32] * 64, 0)):
+        pages.decode_outer(5, *ref.K_16[1:], 4, [0] * 32, thresholds, expect=number)
+
+
+@group("outer checks, refusals with 12")
+def outer_refused(pages, random):
+    """12 with each other refusal, and each with all that come after it."""
+    for call, add in ((ENCODE_OUTER, pages.encode_outer), (DECODE_OUTER, pages.decode_outer)):
+        *others, last = REFUSALS[call]
+        assert last == 12
+        refused_by_first(call, add, [(number, 12) for number in others] + with_all_after(call) + [(12,)])
+
+
+@group("outer checks in C alone", c_only=True)
+def outer_c_only(pages, random):
+    """Tables of an odd length, and margins of no whole number, with a block length that is refused and not."""
+    for length in (2, 0):
+        for table_len in (7, 9):
+            table = (ref.CODE_A + b"\0")[:table_len]
+            pages.encode_outer(5, 16, 1, table, length, [0] * 16, expect=3)
+            pages.decode_outer(5, 16, 1, table, length, [0] * 32, [0], expect=3)
+        for margins_len in (63, 65):
+            pages.decode_outer(5, *ref.K_16[1:], length, [0] * 32, [0], lengths=(16, 16, 16, margins_len), expect=6)
 
 
 def make():

@@ -6,7 +6,8 @@ import struct
 import reference as ref
 
 # The number of a call in the file; 0 opens a group.
-OPEN_GROUP, CHECK_TABLE, ENCODE, SYNDROME, DECODE, OPEN, PASS, EXPLAIN, DECODE_COUNTERS = range(9)
+(OPEN_GROUP, CHECK_TABLE, ENCODE, SYNDROME, DECODE, OPEN, PASS, EXPLAIN, DECODE_COUNTERS, ENCODE_OUTER,
+ DECODE_OUTER) = range(11)
 
 # What a record gives of a string's content.
 BEFORE, AFTER = 1, 2
@@ -118,6 +119,25 @@ class Pages:
         *answers, counts = decode_answers(lengths, number, got)
         self._call(DECODE_COUNTERS, number, expect, [q, k, b], table,
                    [read(page), read(thresholds), *answers, read(counters), counts])
+        return got
+
+    def encode_outer(self, q, k, b, table, length, data, page_len=None, expect=None):
+        """`length` is that of a block. Returns the page, None where it is refused."""
+        page_len = (b + 1) * k if page_len is None else page_len
+        number, page = ref.encode_outer(q, k, b, table, length, data, page_len)
+        self._call(ENCODE_OUTER, number, expect, [q, k, b, length], table, [read(data), lent(page_len, number, page)])
+        return page
+
+    def decode_outer(self, q, k, b, table, length, page, thresholds, lengths=None, expect=None):
+        """`length` is that of a block, `lengths` are those of result, syndrome, difference and margins. Returns what the
+        decode gave. Where it makes no step, that is what decode gives."""
+        lengths = ref.decode_lengths(k, b) if lengths is None else lengths
+        number, got = ref.decode_outer(q, k, b, table, length, page, thresholds, *lengths)
+        plain = ref.decode(q, k, b, table, page, thresholds, *lengths)
+        assert number == 12 or number == plain[0]
+        assert number or got.steps or got[:-1] == plain[1]
+        self._call(DECODE_OUTER, number, expect, [q, k, b, length], table,
+                   [read(page), read(thresholds), *decode_answers(lengths, number, got)])
         return got
 
     def open_page(self, q, k, b, table, page, lengths=None, expect=None):

@@ -1,10 +1,11 @@
-"""The page code and its decoder, as documents 01 and 02 (requests N1, N2 and N4 to N7) state them: clear rather than fast.
+"""The page code and its decoder, as documents 01 and 02 (N1, N2 and N4 to N8) state them: clear rather than fast.
 
 Shares no code and no tables with the library. `check_table`, `encode`, `syndrome`, `decode`, `open_page`, `pass_once`,
-`explain` and `decode_counters` take what the C calls take, with the lengths of buffers lent for an answer in place of the
-buffers. They return the number and, at 0, what was written. Elsewhere a code is q, k and its runs, a list of positions
-for each branch. Run as a program it tries itself on the worked cases of document 01, on the codes of N2, on the threshold
-lists of N4, on the passes of N5, on the explanations of N6 and on the counters of N7.
+`explain`, `decode_counters`, `encode_outer` and `decode_outer` take what the C calls take, with the lengths of buffers
+lent for an answer in place of the buffers. They return the number and, at 0, what was written. Elsewhere a code is q, k
+and its runs, a list of positions for each branch. Run as a program it tries itself on the worked cases of document 01,
+on the codes of N2, on the threshold lists of N4, on the passes of N5, on the explanations of N6, on the counters of N7
+and on the outer checks of N8.
 """
 
 import functools
@@ -20,6 +21,9 @@ ZEROED = bytes(256)
 Counts = namedtuple("Counts", "passes changes start end")
 # `places` are the places, in the list of thresholds, of the passes that were run.
 Decoded = namedtuple("Decoded", "result syndrome difference margins counts places changes_of_pass")
+# `steps` are the outer steps, in the order in which they were made.
+OuterDecoded = namedtuple("OuterDecoded", (*Decoded._fields, "steps"))
+Step = namedtuple("Step", "symbol value reliability")
 Opened = namedtuple("Opened", "result syndrome difference")
 Passed = namedtuple("Passed", "result syndrome difference changes")
 Explained = namedtuple("Explained", "ground h0 m0 m1 bits")
@@ -120,7 +124,7 @@ def self_orthogonal(k, runs):
     return _self_orthogonal(k, tuple(tuple(run) for run in runs))
 
 
-# Refusals: one test a number. Each call makes those it has in this order: 1, 2, 10, 3, 4, .. 9, 11.
+# Refusals: one test a number. Each call makes those it has in this order: 1, 2, 10, 3, 4, .. 9, then 11 or 12.
 
 def bad_q(q):
     return not 3 <= q <= 256
@@ -151,6 +155,10 @@ def bad_counters(counters):
     return len(counters) != 256 or any(counters)
 
 
+def bad_block(k, b, length):
+    return length < 2 or b * k % length != 0
+
+
 def table_tests(q, k, b, table):
     return [
         (1, lambda: bad_q(q)),
@@ -167,6 +175,10 @@ def encode_tests(q, k, b, table, data, page_len):
         (6, lambda: (len(data), page_len) != (b * k, (b + 1) * k)),
         (7, lambda: bad_symbol(q, data)),
     ]
+
+
+def encode_outer_tests(q, k, b, table, length, data, page_len):
+    return encode_tests(q, k, b, table, data, page_len) + [(12, lambda: bad_block(k, b, length))]
 
 
 def syndrome_tests(q, k, b, table, page, syndrome_len):
@@ -194,6 +206,10 @@ def decode_tests(q, k, b, table, page, thresholds, *lengths, counters=ZEROED):
         (8, lambda: not 1 <= len(thresholds) <= 64),
         (9, lambda: any(t > 32 for t in thresholds)),
     ]
+
+
+def decode_outer_tests(q, k, b, table, length, page, thresholds, *lengths):
+    return decode_tests(q, k, b, table, page, thresholds, *lengths) + [(12, lambda: bad_block(k, b, length))]
 
 
 def open_tests(q, k, b, table, page, *lengths):
@@ -280,16 +296,21 @@ def opened(q, k, runs, page):
     return list(page[:n]), syndrome_of(q, k, runs, page), [0] * n
 
 
+def change(q, k, runs, value, result, s, d, j):
+    """Subtracts the value from result symbol j, from d at j and from s at each check of j."""
+    result[j] = (result[j] - value) % q
+    d[j] = (d[j] - value) % q
+    for i in checks_of(k, runs, j):
+        s[i] = (s[i] - value) % q
+
+
 def visit(q, k, runs, threshold, result, s, d, j, vote=vote):
     """A visit to data symbol j. Alters the three lists where it makes a change, and returns whether it does."""
     before = estimates(k, runs, s, d, j)
     h0, m0, m1 = vote(before)
     if m0 - m1 <= threshold or h0 == 0:
         return False
-    result[j] = (result[j] - h0) % q
-    d[j] = (d[j] - h0) % q
-    for i in checks_of(k, runs, j):
-        s[i] = (s[i] - h0) % q
+    change(q, k, runs, h0, result, s, d, j)
     # What N5 says of every change: the estimates are all that it altered of S and D.
     assert nonzero(before) - nonzero(estimates(k, runs, s, d, j)) > threshold
     return True
@@ -313,11 +334,12 @@ def run(q, k, runs, page, thresholds, vote=vote):
     return result, s, d, places, changes_of_pass
 
 
-def counts_of(q, k, runs, page, result, changes_of_pass):
-    """The four counts of a decode; a distance is that of the code word of the data from the page received."""
+def counts_of(q, k, runs, page, result, changes_of_pass, steps=0):
+    """The four counts of a decode; a distance is that of the code word of the data from the page received. Outer steps
+    are changes and no pass."""
     return Counts(
         passes=len(changes_of_pass),
-        changes=sum(changes_of_pass),
+        changes=sum(changes_of_pass) + steps,
         start=distance(code_word(q, k, runs, page[:len(result)]), page),
         end=distance(code_word(q, k, runs, result), page))
 
@@ -325,6 +347,50 @@ def counts_of(q, k, runs, page, result, changes_of_pass):
 def strict_minima(values):
     """The places whose value is smaller than all before it."""
     return [i for i, value in enumerate(values) if all(value < before for before in values[:i])]
+
+
+# The outer check
+
+def blocks(length, n):
+    """The data symbols of each block, by their numbers: `length` in a row, through all branches."""
+    return [range(first, first + length) for first in range(0, n, length)]
+
+
+def block_sum(q, data, block):
+    return sum(data[j] for j in block) % q
+
+
+def keeps_outer_rule(q, length, data):
+    """Does every block sum to 0?"""
+    return all(block_sum(q, data, block) == 0 for block in blocks(length, len(data)))
+
+
+def outer_word(q, length, data):
+    """The data with the last symbol of each block replaced by the one that makes the block sum to 0."""
+    word = list(data)
+    for *others, last in blocks(length, len(data)):
+        word[last] = -sum(data[j] for j in others) % q
+    return word
+
+
+def reliability(values, e):
+    """The zeros among the estimates minus those equal to e."""
+    return values.count(0) - values.count(e)
+
+
+def outer_step(q, k, runs, block, result, s, d):
+    """What is due for a block after the passes. Alters the three lists where there is a step, and returns it, else
+    None."""
+    e = block_sum(q, result, block)
+    if e == 0:
+        return None
+    *others, last = [reliability(estimates(k, runs, s, d, j), e) for j in block]
+    least = min(others)
+    if least >= last:
+        return None
+    step = Step(block[others.index(least)], e, least)
+    change(q, k, runs, e, result, s, d, step.symbol)
+    return step
 
 
 # The calls
@@ -401,6 +467,52 @@ def decode_counters(q, k, b, table, page, thresholds, *lengths, counters):
     margins = [counted_margin(estimates(k, runs, s, d, j)) for j in range(b * k)]
     counts = counts_of(q, k, runs, page, result, changes_of_pass)
     return 0, Decoded(result, s, d, margins, counts, places, changes_of_pass)
+
+
+def encode_outer(q, k, b, table, length, data, page_len):
+    """`length` is that of a block."""
+    number = first_that_applies(encode_outer_tests(q, k, b, table, length, data, page_len))
+    if number:
+        return number, None
+    word = outer_word(q, length, data)
+    # What N8 says of the page: its data keeps the outer rule, and is the data lent but for the last places.
+    assert keeps_outer_rule(q, length, word) and not bad_symbol(q, word)
+    assert all(j % length == length - 1 for j, (sent, given) in enumerate(zip(word, data)) if sent != given)
+    return encode(q, k, b, table, word, page_len)
+
+
+def decode_outer(q, k, b, table, length, page, thresholds, *lengths):
+    """`length` is that of a block; `lengths` are those of result, syndrome, difference and margins."""
+    number = first_that_applies(decode_outer_tests(q, k, b, table, length, page, thresholds, *lengths))
+    if number:
+        return number, None
+    runs = runs_of(b, table)
+    page = list(page)
+    result, s, d, places, changes_of_pass = run(q, k, runs, page, thresholds)
+
+    def distance_now():
+        return distance(code_word(q, k, runs, result), page)
+
+    passed = distance_now()
+    steps = []
+    for block in blocks(length, b * k):
+        before = distance_now()
+        step = outer_step(q, k, runs, block, result, s, d)
+        if step is not None:
+            steps.append(step)
+            # What N8 says of every step: it adds exactly its reliability to the distance. The block then sums to 0.
+            assert distance_now() == before + step.reliability and block_sum(q, result, block) == 0
+    margins = [margin(estimates(k, runs, s, d, j)) for j in range(b * k)]
+    counts = counts_of(q, k, runs, page, result, changes_of_pass, len(steps))
+
+    # What stays of document 01: result = received data + D, S = the code word's checks - the received checks; the rule of
+    # the falling distance for the passes.
+    assert page_of(q, k, runs, result, s, d) == page
+    assert counts.end == nonzero(s + d) == passed + sum(step.reliability for step in steps)
+    assert passed + sum(n * (thresholds[i] + 1) for i, n in zip(places, changes_of_pass)) <= counts.start
+    # On a code word all reliabilities are J + 1: no step, also where its blocks do not sum to 0.
+    assert counts.start > 0 or not steps and result == page[:b * k]
+    return 0, OuterDecoded(result, s, d, margins, counts, places, changes_of_pass, steps)
 
 
 def open_page(q, k, b, table, page, *lengths):
@@ -533,6 +645,7 @@ def self_check():
     passes_check()
     explain_check()
     counters_check()
+    outer_check()
 
 
 def branches_check():
@@ -783,7 +896,109 @@ def counters_check():
         assert decode_counters(5, 12, *arguments[2:], counters=counters)[0] == 5
 
 
+# A code whose data symbols can be divided into blocks: k = 16 with the positions of code A.
+K_16 = 256, 16, 1, CODE_A
+
+
+def page_16(data, s):
+    """A received page of that code with these data symbols, on which S is as named."""
+    received = symbols(16, data)
+    checks = code_word(256, 16, [[0, 1, 4, 6]], received)[16:]
+    return received + [(check - s.get(i, 0)) % 256 for i, check in enumerate(checks)]
+
+
+# Outer steps by hand on that code: data, S, block length, then the steps. Symbol j has the checks j, j + 1, j + 4 and
+# j + 6 modulo 16. No lead is above the threshold 32, so that a pass with it changes nothing; D is 0, and d counts as a
+# zero.
+OUTER_STEPS = (
+    # Symbol 0 is 7 too much, and two of its checks are replaced too. It has one zero and two estimates 7. Of the
+    # others in a block of four, 1 has a check of 11, 2 and the last have one of 7.
+    ({0: 7}, {0: 9, 1: 11, 4: 7, 6: 7}, 4, [(0, 7, -1)]),
+    ({0: 7}, {0: 9, 1: 11, 4: 7, 6: 7}, 2, [(0, 7, -1)]),
+    ({0: 7}, {0: 9, 1: 11, 4: 7, 6: 7}, 16, [(0, 7, -1)]),
+    # An estimate 7 takes two off a symbol's reliability, another value than 0 takes one.
+    ({0: 7}, {4: 7, 6: 7}, 4, [(0, 7, 1)]),
+    ({0: 7}, {0: 8, 6: 7}, 4, [(0, 7, 2)]),
+    # Estimates that are neither 0 nor e, and the earliest of equals: 2 has the checks 6 and 8, 4 has 5 and 8, 5 has
+    # 5 and 6, the last of eight, 7, has 8.
+    ({0: 5, 5: 7}, {5: 1, 6: 1, 8: 1}, 8, [(2, 12, 3)]),
+    ({0: 5, 5: 7}, {6: 1}, 8, [(0, 12, 4)]),
+    ({0: 5, 5: 7}, {5: 1}, 8, [(1, 12, 4)]),
+    # The last is the least reliable: symbol 3 has the checks 3, 7, 9; 2 has 3 and 1 has 7.
+    ({0: 7}, {3: 7, 7: 7, 9: 7}, 4, []),
+    ({0: 7}, {3: 1, 4: 7, 9: 1}, 4, []),
+    # It is as reliable as the least of the others, by the same estimates and by others: 0 and 2 have the check 6.
+    ({0: 7}, {3: 7}, 4, []),
+    ({0: 7}, {6: 7, 7: 1, 9: 1}, 4, []),
+    ({0: 7}, {6: 7, 9: 1}, 4, [(0, 7, 3)]),
+    # A block that sums to 0 has no step, whatever its estimates are.
+    ({0: 7, 1: 249}, {0: 7, 1: 7, 4: 7, 6: 7}, 4, []),
+    # Code words that break the rule: all reliabilities are 5.
+    ({0: 7, 3: 1, 9: 2}, {}, 4, []), ({0: 7, 3: 1, 9: 2}, {}, 16, []), ({15: 255}, {}, 2, []),
+    # Two blocks with a step each.
+    ({0: 7, 8: 9}, {0: 7, 1: 7, 8: 9, 9: 9}, 4, [(0, 7, 1), (8, 9, 1)]),
+    # The second block gets S and D as the first one's step left them: S at 4 is then 0 and at 6 249, so that 5 and
+    # 6 are the least and not 4; S at 4 is 249 and at 6 0, so that 4 is and not 5; or S is 0, and there is no step.
+    ({0: 7, 5: 7}, {0: 7, 1: 7, 4: 7}, 4, [(0, 7, -1), (5, 7, 4)]),
+    ({0: 7, 5: 7}, {0: 7, 1: 7, 6: 7}, 4, [(0, 7, -1), (4, 7, 4)]),
+    ({0: 7, 5: 7}, {0: 7, 1: 7, 4: 7, 6: 7}, 4, [(0, 7, -3)])
+)
+
+
+def outer_check():
+    """N8: pages encoded with outer checks and outer steps worked out by hand; the recovery bound with the outer rule;
+    code words that break it; where 12 comes."""
+    # k = 4, one position, 0: a check is its data symbol. What is lent at the last places is ignored.
+    four = 10, 4, 1, table_of([0])
+    for data, length, sent in (([1, 2, 3, 4], 2, [1, 9, 3, 7]), ([1, 9, 3, 7], 2, [1, 9, 3, 7]),
+                               ([1, 2, 3, 4], 4, [1, 2, 3, 4]), ([1, 2, 3, 9], 4, [1, 2, 3, 4]),
+                               ([0, 5, 0, 5], 2, [0, 0, 0, 0]), ([9, 9, 9, 9], 4, [9, 9, 9, 3])):
+        assert encode_outer(*four, length, data, 8) == (0, sent + sent)
+    # Blocks across two branches: k = 3, b = 2, runs 0 and 0. Check i is the sum of symbols i and 3 + i.
+    for length, sent in ((2, [1, 9, 3, 7, 5, 5]), (3, [1, 2, 7, 4, 5, 1]), (6, [1, 2, 3, 4, 5, 5])):
+        checks = [(sent[i] + sent[3 + i]) % 10 for i in range(3)]
+        assert encode_outer(10, 3, 2, table_of([0], [0]), length, [1, 2, 3, 4, 5, 6], 9) == (0, sent + checks)
+
+    for data, s, length, steps in OUTER_STEPS:
+        number, got = decode_outer(*K_16, length, page_16(data, s), [32], *decode_lengths(16, 1))
+        assert number == 0 and got.steps == steps
+        assert got.counts == (1, len(steps), len(s), len(s) + sum(step[2] for step in steps))
+    # The page of case 10: the pass changes symbol 0, though it was right, so that d(0) and s(6) are 251. The outer step
+    # takes that back. The margins are those after it: of the estimates of symbol 0 three are 5 and two are 0.
+    page = symbols(16, {}) + symbols(16, {0: 251, 1: 251, 4: 251})
+    number, got = decode_outer(*K_16, 4, page, [0], *decode_lengths(16, 1))
+    assert number == 0 and got.steps == [(0, 251, 1)] and got.counts == (1, 2, 3, 3)
+    assert got[:3] == ([0] * 16, symbols(16, {0: 5, 1: 5, 4: 5}), [0] * 16)
+    assert [j for j in range(16) if got.margins[j] < 5] == [0, 1, 3, 4, 10, 11, 12, 13, 14, 15] and got.margins[0] == -1
+    assert decode(*K_16, page, [0], *decode_lengths(16, 1))[1].counts == (1, 1, 3, 2)
+
+    # At most two symbols replaced in a page whose data kept the rule: the data comes back and there is no step.
+    for length in (2, 16):
+        for places in itertools.chain(*(itertools.combinations(range(32), n) for n in range(3))):
+            for values in itertools.product((1, 2), repeat=len(places)):
+                page = symbols(32, dict(zip(places, values)))
+                number, got = decode_outer(3, *K_16[1:], length, page, [1, 0], *decode_lengths(16, 1))
+                assert number == 0 and got.result == [0] * 16 and not got.steps
+    # Where the data breaks the rule, one symbol replaced may be enough for a step.
+    word = encode(*K_16, symbols(16, {0: 7}), 32)[1]
+    word[16 + 6] = 0
+    number, got = decode_outer(*K_16, 4, word, [0], *decode_lengths(16, 1))
+    assert number == 0 and got.steps == [(0, 7, 3)] and got.counts == (1, 1, 1, 4)
+
+    # 12 for all lengths that are not a divisor from 2 up; after all others. Encode has no 8 and no 9.
+    zeros = [0] * 16
+    for length in (*range(40), 256 + 16, 2 ** 16 + 16, 2 ** 31, 2 ** 32 - 16, 2 ** 32 - 1):
+        number = 0 if length in (2, 4, 8, 16) else 12
+        assert encode_outer(5, *K_16[1:], length, zeros, 32)[0] == number
+        assert encode_outer(5, *K_16[1:], length, zeros, 31)[0] == 6
+        assert encode_outer(5, *K_16[1:], length, zeros[1:] + [5], 32)[0] == 7
+        for page, thresholds, refused in ((zeros * 2, [32], number), (zeros, [0], 6), ([5] + [0] * 31, [], 7),
+                                          (zeros * 2, [], 8), (zeros * 2, [0, 33], 9)):
+            assert decode_outer(5, *K_16[1:], length, page, thresholds, *decode_lengths(16, 1))[0] == refused
+    assert encode_outer(5, 12, 1, CODE_A, 0, [0] * 12, 24)[0] == 5
+
+
 if __name__ == "__main__":
     self_check()
     print("The worked cases of document 01, the codes of N2, the threshold lists of N4, the passes of N5, the "
-          "explanations of N6 and the counters of N7 pass.")
+          "explanations of N6, the counters of N7 and the outer checks of N8 pass.")

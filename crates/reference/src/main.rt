@@ -278,6 +278,11 @@ fn symbol_of(record: &[u8]) -> u32 {
     number_at(record, 32)
 }
 
+// The block length of an encode or a decode with an outer check.
+fn block_of(record: &[u8]) -> u32 {
+    number_at(record, 28)
+}
+
 // Has the record so many numbers and strings, and nothing behind the last?
 fn is_whole(record: &[u8], numbers: u32, strings: u32, last: Piece) -> bool {
     number_at(record, 8) == numbers
@@ -476,6 +481,94 @@ fn decode_counters_is_right(record: &[u8]) -> bool {
     )
 }
 
+fn encode_outer_with(record: &[u8], lent: &mut [u8]) -> bool {
+    let table = Piece::first(record);
+    let data = table.next(record);
+    let page = data.next(record);
+    let positions = read_positions(table.content(record));
+    let n = table.positions();
+    let number = outer_page::encode_outer(
+        q_of(record),
+        k_of(record),
+        b_of(record),
+        &positions[0..n],
+        block_of(record),
+        data.content(record),
+        lent,
+    );
+    number == returned(record) && page.is_due(record, lent) && is_whole(record, 4, 3, page)
+}
+
+fn encode_outer_is_right(record: &[u8]) -> bool {
+    let page = Piece::first(record).next(record).next(record);
+    let mut lent = filled();
+    let n = page.lent();
+    encode_outer_with(record, &mut lent[0..n])
+}
+
+fn decode_outer_with(
+    record: &[u8],
+    thresholds: Piece,
+    first: &mut [u8],
+    second: &mut [u8],
+    third: &mut [u8],
+    fourth: &mut [i32],
+) -> bool {
+    let table = Piece::first(record);
+    let page = table.next(record);
+    let result = thresholds.next(record);
+    let syndrome = result.next(record);
+    let difference = syndrome.next(record);
+    let margins = difference.next(record);
+    let counts = margins.next(record);
+    let positions = read_positions(table.content(record));
+    let n = table.positions();
+    let got = outer_decoder::decode_outer(
+        q_of(record),
+        k_of(record),
+        b_of(record),
+        &positions[0..n],
+        block_of(record),
+        page.content(record),
+        thresholds.content(record),
+        first,
+        second,
+        third,
+        fourth,
+    );
+    got.number == returned(record)
+        && result.is_due(record, first)
+        && syndrome.is_due(record, second)
+        && difference.is_due(record, third)
+        && margins.margins_are_due(record, fourth)
+        && counts_are_due(got, record, counts)
+        && is_whole(record, 4, 8, counts)
+}
+
+fn decode_outer_is_right(record: &[u8]) -> bool {
+    let thresholds = Piece::first(record).next(record).next(record);
+    let result = thresholds.next(record);
+    let syndrome = result.next(record);
+    let difference = syndrome.next(record);
+    let margins = difference.next(record);
+    let mut first = filled();
+    let mut second = filled();
+    let mut third = filled();
+    let mut fourth = filled_margins();
+    let a = result.lent();
+    let b = syndrome.lent();
+    let c = difference.lent();
+    let d = margins.margins();
+    decode_outer_with(
+        record,
+        thresholds,
+        &mut first[0..a],
+        &mut second[0..b],
+        &mut third[0..c],
+        &mut fourth[0..d],
+    )
+}
+
 fn open_with(record: &[u8], first: &mut [u8], second: &mut [u8], third: &mut [u8]) -> bool {
     let table = Piece::first(record);
     let page = table.next(record);
@@ -628,6 +721,8 @@ fn is_right(record: &[u8]) -> bool {
         6 => pass_is_right(record),
         7 => explain_is_right(record),
         8 => decode_counters_is_right(record),
+        9 => encode_outer_is_right(record),
+        10 => decode_outer_is_right(record),
         _ => is_unknown(call),
     }
 }
