@@ -1,5 +1,5 @@
 /* bench.c - measures the library beside the same calls in C, in one run:
- *   bench [--quick] [--ns] [--counters] [--passes] [--rows FILTER]
+ *   bench [--quick] [--ns] [--counters] [--outer] [--passes] [--rows FILTER]
  *
  * Every page is first put through all implementations, and all they return and write is compared. Then, sweep by sweep,
  * row by row and round by round, each implementation runs in turn; its fastest round counts.
@@ -9,6 +9,7 @@
  *   --rows FILTER   only the rows with FILTER in their name
  *   --count         makes each call of the rows to count once, for bench/count
  *   --counters      the library alone: decode with counters beside decode
+ *   --outer         the library alone: decode with an outer check beside decode, in blocks of 8 and of 16
  *   --passes        the library alone: decode with one threshold beside open and one pass with it */
 #define _POSIX_C_SOURCE 199309L
 #include "calls.h"
@@ -43,7 +44,7 @@ struct implementation {
     decode_call *decode;
 };
 
-static decode_call decode_counters;
+static decode_call decode_counters, decode_outer_8, decode_outer_16;
 
 /* The library comes first: the others are compared with it. */
 static const struct implementation library_and_c[] = {
@@ -64,6 +65,12 @@ static const struct implementation both_votes[] = {
     CALLS("decode", qmtd_),
 };
 
+static const struct implementation with_outer[] = {
+    CALLS("decode", qmtd_),
+    {"L = 8", qmtd_check_table, qmtd_encode, qmtd_syndrome, decode_outer_8},
+    {"L = 16", qmtd_check_table, qmtd_encode, qmtd_syndrome, decode_outer_16},
+};
+
 /* Decode with counters as a decode: they are lent as the last call left them. */
 static uint32_t decode_counters(uint32_t q, uint32_t k, uint32_t b, const uint8_t *table, uint64_t table_len,
                                 const uint8_t *page, uint64_t page_len, const uint8_t *thresholds,
@@ -76,6 +83,22 @@ static uint32_t decode_counters(uint32_t q, uint32_t k, uint32_t b, const uint8_
                                 result_len, syndrome, syndrome_len, difference, difference_len, margins, margins_len,
                                 counters, sizeof counters, counts, counts_len);
 }
+
+/* Decode with an outer check as a decode, for a block length. */
+#define DECODE_OUTER(block)                                                                                            \
+    static uint32_t decode_outer_##block(                                                                              \
+        uint32_t q, uint32_t k, uint32_t b, const uint8_t *table, uint64_t table_len, const uint8_t *page,             \
+        uint64_t page_len, const uint8_t *thresholds, uint64_t thresholds_len, uint8_t *result, uint64_t result_len,   \
+        uint8_t *syndrome, uint64_t syndrome_len, uint8_t *difference, uint64_t difference_len, uint8_t *margins,      \
+        uint64_t margins_len, uint8_t *counts, uint64_t counts_len)                                                    \
+    {                                                                                                                  \
+        return qmtd_decode_outer(q, k, b, table, table_len, block, page, page_len, thresholds, thresholds_len, result, \
+                                 result_len, syndrome, syndrome_len, difference, difference_len, margins,              \
+                                 margins_len, counts, counts_len);                                                     \
+    }
+
+DECODE_OUTER(8)
+DECODE_OUTER(16)
 
 /* ---- Codes, pages and rows ---- */
 
@@ -90,6 +113,11 @@ enum { MAX_CODES = sizeof codes / sizeof codes[0] };
 
 /* Few checks and many, with the same number of data symbols. */
 static const struct code vote_codes[] = {{4096, 1, 4, 1531}, {4096, 1, 12, 1531}, {4096, 1, 32, 1531}};
+
+/* Numbers of data symbols that 16 divides; the data is sent in blocks of 8, so that blocks of 16 keep the rule too. */
+static const struct code outer_codes[] = {{1024, 1, 12, 387}, {4096, 1, 10, 1531}, {4096, 1, 32, 1531},
+                                          {1024, 4, 8, 387}};
+enum { SENT_BLOCK = 8 };
 
 static const uint32_t alphabets[] = {256, 251};
 enum { ALPHABETS = sizeof alphabets / sizeof alphabets[0] };
@@ -115,6 +143,9 @@ static const struct comparison {
                     "library speed / C speed; above 1 the library is faster"},
   votes = {both_votes, sizeof both_votes / sizeof both_votes[0], vote_codes, sizeof vote_codes / sizeof vote_codes[0],
            DECODE, "speed with counters / speed without; above 1 it is faster with them"},
+  outer = {with_outer, sizeof with_outer / sizeof with_outer[0], outer_codes,
+           sizeof outer_codes / sizeof outer_codes[0], DECODE,
+           "time with the outer check / time of decode; above 1 it takes longer"},
   *compared = &library_with_c;
 
 struct row {
@@ -178,6 +209,15 @@ static void make_table(const struct code *code, uint8_t *table)
     }
 }
 
+/* Encodes the row's data, with an outer check where that is compared. */
+static uint32_t encode_row(struct row *row)
+{
+    uint32_t q = row->q, k = row->k, b = row->b, table_len = 2 * b * row->positions, n = row->symbols;
+    if (compared == &outer)
+        return qmtd_encode_outer(q, k, b, row->table, table_len, SENT_BLOCK, row->data, n, row->page, n + k);
+    return qmtd_encode(q, k, b, row->table, table_len, row->data, n, row->page, n + k);
+}
+
 /* Makes the row's page: data drawn, encoded by the library, then the damage, rounded up to whole symbols. */
 static void make_page(struct row *row, uint32_t damage)
 {
@@ -186,8 +226,7 @@ static void make_page(struct row *row, uint32_t damage)
     generator = 0x9E3779B97F4A7C15u;
     for (uint32_t i = 0; i < row->symbols; i++)
         row->data[i] = (uint8_t)draw(q);
-    if (qmtd_check_table(q, k, b, row->table, table_len) != QMTD_OK ||
-        qmtd_encode(q, k, b, row->table, table_len, row->data, row->symbols, row->page, n) != QMTD_OK) {
+    if (qmtd_check_table(q, k, b, row->table, table_len) != QMTD_OK || encode_row(row) != QMTD_OK) {
         fprintf(stderr, "%s: the library refuses the table\n", row->name);
         exit(1);
     }
@@ -259,6 +298,15 @@ void counted_call(const struct implementation *by, const struct row *row, struct
     counted++;
 }
 
+/* Is an answer what the first one's makes due? With an outer check passes and start are decode's, and where no step was
+ * made, so that the changes are as many, all else is too. */
+static int is_due(const struct answer *answer, const struct answer *first)
+{
+    if (compared == &outer && memcmp(answer->counts + 4, first->counts + 4, 4) != 0)
+        return memcmp(answer->counts, first->counts, 4) == 0 && memcmp(answer->counts + 8, first->counts + 8, 4) == 0;
+    return memcmp(answer, first, sizeof *answer) == 0;
+}
+
 /* Puts the row through all implementations; leaves the answer of the first. Do all agree? */
 static int agree(const struct row *row, struct answer *first)
 {
@@ -267,7 +315,7 @@ static int agree(const struct row *row, struct answer *first)
         struct answer *answer = i == 0 ? first : &other;
         memset(answer, 0xA5, sizeof *answer);
         make_call(&compared->implementations[i], row, answer);
-        if (answer->number != QMTD_OK || memcmp(answer, first, sizeof *answer) != 0) {
+        if (answer->number != QMTD_OK || !is_due(answer, first)) {
             fprintf(stderr, "%s: %s returned %u%s\n", row->name, compared->implementations[i].name,
                     (unsigned)answer->number,
                     answer->number == first->number ? " and wrote other bytes than the first" : "");
@@ -339,10 +387,10 @@ static void print_row(const struct row *row, const double *best, const struct an
     fflush(stdout);
 }
 
-/* The rows that bench/count counts; of both votes all of them. */
+/* The rows that bench/count counts; of the library alone all of them. */
 static int to_count(const struct row *row, uint32_t damage)
 {
-    if (compared == &votes)
+    if (compared != &library_with_c)
         return 1;
     return (row->k == 1021 || row->positions == 32 || row->b == 4) &&
            (row->call == ENCODE || (row->call == DECODE && (damage == 0 || damage == 5)));
@@ -415,12 +463,14 @@ int main(int argc, char **argv)
             count = 1;
         } else if (strcmp(argv[i], "--counters") == 0) {
             compared = &votes;
+        } else if (strcmp(argv[i], "--outer") == 0) {
+            compared = &outer;
         } else if (strcmp(argv[i], "--passes") == 0) {
             passes = 1;
         } else if (strcmp(argv[i], "--rows") == 0 && i + 1 < argc) {
             filter = argv[++i];
         } else {
-            fprintf(stderr, "bench [--quick] [--ns] [--count] [--counters] [--passes] [--rows FILTER]\n");
+            fprintf(stderr, "bench [--quick] [--ns] [--count] [--counters] [--outer] [--passes] [--rows FILTER]\n");
             return 2;
         }
 
