@@ -10,7 +10,8 @@
 #   make test-c                 the C tests over the archive for x86-64
 #   make test-targets           the archives for the other processors: all built, four run under emulation
 #   make install PREFIX=..      header, archive and pkg-config file; TARGET=.. as above
-#   make bench                  the library against C: times, and instructions a data byte; TARGET=x86-64-v3 for AVX2
+#   make bench                  the library against C, and decode in blocks against decode: times, and instructions a data
+#                               byte; TARGET=x86-64-v3 for AVX2
 #   make votes                  build/votes/libvotes.a, both votes alone, which bench/votes measures
 #   make pages, check-pages     make the reference pages, and what the screen must show, anew; compare them with the
 #                               committed ones
@@ -109,7 +110,9 @@ install: lib
 # Times, and instructions where valgrind is there to count them.
 bench: lib
 	TARGET=$(TARGET) bench/run
-	@if command -v valgrind >/dev/null; then TARGET=$(TARGET) bench/count; else echo "no valgrind: instructions not counted"; fi
+	TARGET=$(TARGET) bench/run --outer
+	@if command -v valgrind >/dev/null; then TARGET=$(TARGET) bench/count && TARGET=$(TARGET) bench/count --outer; \
+	 else echo "no valgrind: instructions not counted"; fi
 
 votes: build/votes/libvotes.a
 
