@@ -1,4 +1,4 @@
-// Blocks of data symbols in a row: whether they make up the data, and what one sums to.
+// Blocks of data symbols in a row: whether they make up the data, what one sums to, and the next that does not sum to 0.
 ghost use mathlib.Core.Path.{_≡_};
 ghost use Prim.Native.Nat.{_-_, _*_, _%_, _<_, _≤_};
 ghost use lib.Dec.{eqb, leb};

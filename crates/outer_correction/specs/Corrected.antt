@@ -15,7 +15,6 @@ use Rattle.theory.specs.Runs.{range-passes, symbols-range}
 use Rattle.correction.specs.Decoded.{tallyOf, decoded, decoded-distance}
 use Rattle.outer_steps.specs.Blocks.{Stepped, stepsTo, none-made, steps-ready, steps-fit, blocks-few}
 use Rattle.visits.specs.Progress.{Progress, Ready}
-use Rattle.tally.specs.declared.Tally.{Tally}
 
 -- what it hands back
 abbrev pub corrected : Code → ℕ → List ℕ → List ℕ → Progress

@@ -7,7 +7,7 @@ use Prim.Native.Nat.{ℕ, _+_, _≤_}
 use lib.ListN.{length, take}
 use Rattle.model.specs.Calls.{Outcome, outcome, decodeOuterAnswer, noCounts}
 use Rattle.model.specs.Code.{Code, dataCount}
-use Rattle.model.specs.Decoder.{State, stateWeight, distanceTo}
+use Rattle.model.specs.Decoder.{State, stateWeight}
 use Rattle.model.specs.Outer.{outerState, outerCounts}
 use Rattle.model.specs.Symbols.{weight}
 use Rattle.theory.specs.Answers.{Opens, BlockFits}

@@ -9,17 +9,14 @@ use native.Mathlib.Nat.{zero-mul, add-mul, mod-lt, mul-le-mul-right, mul-le-mul-
 use native.Mathlib.Numerals.{add-one}
 use native.Mathlib.Omega.{arith}
 use lib.Arith.{digits-div}
-use lib.IntN.{ℤ}
-use lib.ListN.{length, getD, take, drop, length-take, length-drop}
-use lib.Seq.{getD-take, getD-drop}
+use lib.ListN.{length, getD, take, drop}
 use lib.Signed.{ltZ}
 use Rattle.model.specs.Code.{Code, dataCount, checkCount, checksOf}
 use Rattle.model.specs.Decoder.{State, change}
 use Rattle.model.specs.Outer.{partSum, blockSum, blockCount, reliabilityOf, leastBelow, weakest, isStep, outerStep, outerSteps, stepCount}
-use Rattle.model.specs.Symbols.{choose, bit, sumBelow}
+use Rattle.model.specs.Symbols.{bit, sumBelow}
 use Rattle.theory.specs.Answers.{BlockFits}
-use Rattle.theory.specs.Counting.{eqb-no, sum-ext}
-use Rattle.theory.specs.Modulo.{by-eq}
+use Rattle.theory.specs.Counting.{eqb-no}
 use Rattle.theory.specs.OuterCheck.{step-no, step-yes, zero-no-step, weakest-least, place-below, steps-few}
 use Rattle.theory.specs.Steps.{change-sized}
 use Rattle.blocks.specs.Blocks.{Doubled, WholeFrom, BrokenFrom, part-sum}

@@ -1,6 +1,6 @@
 -- `first_broken`: all blocks passed sum to 0.
-use mathlib.Core.Path.{_≡_, sym, _∙_}
-use Prim.Native.Nat.{ℕ, _+_, _-_, _≤_}
+use mathlib.Core.Path.{sym, _∙_}
+use Prim.Native.Nat.{_+_, _-_, _≤_}
 use native.Mathlib.Omega.{arith}
 use lib.ListN.{length}
 use Rattle.blocks.specs.Blocks.{BrokenFrom, broken-none, broken-more, whole-next, part-sum, part-summed}

@@ -1,6 +1,6 @@
 -- `correct_page`: what the passes leave, the outer steps from there, and the counts of both.
 use borrow.Author.Needs.{needs}
-use mathlib.Core.Path.{_≡_, ap, _∙_}
+use mathlib.Core.Path.{ap, _∙_}
 use native.Mathlib.Omega.{arith}
 use Rattle.model.specs.Code.{Code}
 use Rattle.model.specs.Decoder.{State, stateBy, stateWeight}

@@ -1,6 +1,6 @@
 -- `outer_step`: the change at the symbol that was found is the block's step.
 use borrow.Author.Needs.{needs}
-use mathlib.Core.Path.{_≡_, sym, ap, _∙_}
+use mathlib.Core.Path.{sym, ap, _∙_}
 use mathlib.Core.Logic.{_≢_}
 use Prim.Native.Nat.{ℕ, _/_, _<_}
 use native.Mathlib.Omega.{arith}
@@ -8,7 +8,6 @@ use Rattle.model.specs.Code.{Code, dataCount, checksOf}
 use Rattle.model.specs.Decoder.{State, stateBy, change}
 use Rattle.model.specs.Outer.{blockSum}
 use Rattle.params.specs.Codes.{codeBy}
-use Rattle.checks.specs.Places.{Placed}
 use Rattle.checks.specs.declared.Place.{Place}
 use Rattle.grounds.specs.Told.{placed-by}
 use Rattle.outer_steps.specs.Blocks.{Made, made, not-made, stepped-made, weakest-in, at-block, sum-in}

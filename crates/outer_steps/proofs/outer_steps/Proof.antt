@@ -1,14 +1,12 @@
 -- `outer_steps`: before block i the state is what the first i blocks leave.
-use borrow.Author.Needs.{needs}
 use mathlib.Core.Path.{_≡_, sym, ap, subst, _∙_}
 use mathlib.Core.List.{List}
-use Prim.Native.Nat.{ℕ, _+_, _-_, _*_, _/_, _<_, _≤_}
+use Prim.Native.Nat.{ℕ, _+_, _-_, _*_, _/_, _≤_}
 use native.Mathlib.Nat.{zero-mul}
 use native.Mathlib.Omega.{arith}
 use lib.ListN.{length}
 use Rattle.model.specs.Code.{Code, dataCount}
 use Rattle.model.specs.Decoder.{State, stateBy}
-use Rattle.model.specs.Outer.{blockCount}
 use Rattle.model.specs.Symbols.{Below}
 use Rattle.params.specs.Codes.{codeBy}
 use Rattle.visits.specs.Progress.{Ready}

@@ -1,19 +1,14 @@
 -- `weakest_of`: each turn compares one reliability more, as integers.
 use borrow.Author.Needs.{needs}
 use mathlib.Core.Path.{_≡_, sym, ap, subst, _∙_}
-use mathlib.Core.List.{List}
 use mathlib.Core.Logic.{⊎-elim}
-use Prim.Native.Nat.{ℕ, _+_, _-_, _≤_, _<_}
+use Prim.Native.Nat.{ℕ, _+_, _-_}
 use native.Mathlib.Omega.{arith}
-use lib.IntN.{ℤ}
-use lib.ListN.{length}
 use mir.Syntax.{w32}
 use mir.Val.{toZ}
-use Rattle.model.specs.Code.{Code, dataCount}
 use Rattle.model.specs.Decoder.{stateBy, estimates}
 use Rattle.model.specs.Outer.{reliabilityOf, leastBelow}
 use Rattle.params.specs.Codes.{codeBy}
-use Rattle.checks.specs.Places.{AtTable}
 use Rattle.margins.specs.Margins.{read-back}
 use Rattle.outer_steps.specs.Weakest.{LeastTo, least-first, least-less, least-same}
 use Rattle.outer_steps.proofs.weakest_of.Statement.{statement}
