@@ -1,5 +1,5 @@
 /* bench.c - measures the library beside the same calls in C, in one run:
- *   bench [--quick] [--ns] [--counters] [--outer] [--passes] [--rows FILTER]
+ *   bench [--quick] [--ns] [--before] [--counters] [--outer] [--passes] [--rows FILTER]
  *
  * Every page is first put through all implementations, and all they return and write is compared. Then, sweep by sweep,
  * row by row and round by round, each implementation runs in turn; its fastest round counts.
@@ -8,6 +8,7 @@
  *   --ns            nanoseconds a data byte for all, instead of ratios
  *   --rows FILTER   only the rows with FILTER in their name
  *   --count         makes each call of the rows to count once, for bench/count
+ *   --before        the library beside the archive that bench/build was told of by QMTD_BEFORE
  *   --counters      the library alone: decode with counters beside decode
  *   --outer         the library alone: decode with an outer check beside decode, in blocks of 8 and of 16
  *   --passes        the library alone: decode with one threshold beside open and one pass with it */
@@ -34,6 +35,9 @@ DECLARE(fast_gcc_)
 #ifdef WITH_CLANG
 DECLARE(plain_clang_)
 DECLARE(fast_clang_)
+#endif
+#ifdef WITH_BEFORE
+DECLARE(before_qmtd_)
 #endif
 
 struct implementation {
@@ -69,6 +73,13 @@ static const struct implementation with_outer[] = {
     CALLS("decode", qmtd_),
     {"L = 8", qmtd_check_table, qmtd_encode, qmtd_syndrome, decode_outer_8},
     {"L = 16", qmtd_check_table, qmtd_encode, qmtd_syndrome, decode_outer_16},
+};
+
+static const struct implementation with_before[] = {
+    CALLS("library", qmtd_),
+#ifdef WITH_BEFORE
+    CALLS("before", before_qmtd_),
+#endif
 };
 
 /* Decode with counters as a decode: they are lent as the last call left them. */
@@ -146,6 +157,8 @@ static const struct comparison {
   outer = {with_outer, sizeof with_outer / sizeof with_outer[0], outer_codes,
            sizeof outer_codes / sizeof outer_codes[0], DECODE,
            "time with the outer check / time of decode; above 1 it takes longer"},
+  before = {with_before, sizeof with_before / sizeof with_before[0], codes, MAX_CODES, CHECK_TABLE,
+            "library speed / speed of the archive before; above 1 the library is faster"},
   *compared = &library_with_c;
 
 struct row {
@@ -461,6 +474,8 @@ int main(int argc, char **argv)
             ns = 1;
         } else if (strcmp(argv[i], "--count") == 0) {
             count = 1;
+        } else if (strcmp(argv[i], "--before") == 0) {
+            compared = &before;
         } else if (strcmp(argv[i], "--counters") == 0) {
             compared = &votes;
         } else if (strcmp(argv[i], "--outer") == 0) {
@@ -470,7 +485,7 @@ int main(int argc, char **argv)
         } else if (strcmp(argv[i], "--rows") == 0 && i + 1 < argc) {
             filter = argv[++i];
         } else {
-            fprintf(stderr, "bench [--quick] [--ns] [--count] [--counters] [--outer] [--passes] [--rows FILTER]\n");
+            fprintf(stderr, "bench [--quick] [--ns] [--count] [--before] [--counters] [--outer] [--passes] [--rows FILTER]\n");
             return 2;
         }
 

@@ -6,8 +6,9 @@ ghost use mathlib.Core.List.{List, _++_};
 ghost use Prim.Native.Nat.{ℕ, _+_, _*_, _≤_};
 ghost use lib.Dec.{eqb};
 ghost use Rattle.model.specs.Decoder.{stateBy};
-ghost use Rattle.model.specs.Calls.{allBelow, firstThatApplies, pageTests, thresholdTests, blockTest, countersFit, decodeAnswer, decodeOuterAnswer, passAnswer, explainAnswer};
+ghost use Rattle.model.specs.Calls.{allBelow, firstThatApplies, pageTests, thresholdTests, blockTest, countersFit, decodeAnswer, passAnswer, explainAnswer};
 ghost use Rattle.params.specs.Codes.{codeBy};
+ghost use Rattle.theory.specs.InBlocks.{blocksAnswer};
 
 // Two lengths are as a call needs them.
 pub fn two_fit(a: usize, m: usize, b: usize, n: usize) -> bool
@@ -133,13 +134,7 @@ pub fn threshold_answer(thresholds: &[u8]) -> u32
 }
 
 // Tests 1 to 10.
-pub fn decode_answer(
-    code: Params,
-    positions: &[u16],
-    fits: bool,
-    page: &[u8],
-    thresholds: &[u8],
-) -> u32
+fn decode_answer(code: Params, positions: &[u16], fits: bool, page: &[u8], thresholds: &[u8]) -> u32
     ensures { λ r. ⌜ r ≡ decodeAnswer (codeBy code (now (positions .entry))) fits (now (page .entry)) (now (thresholds .entry)) ⌝ }
 {
     let number = page_answer(code, positions, fits, page);
@@ -241,8 +236,8 @@ pub fn encode_outer_answer(
     block_answer(code, block)
 }
 
-// The tests of decode in blocks: 1 to 10, and 12.
-pub fn decode_outer_answer(
+// The tests of decode in blocks: 1 to 10, and 12; blocks of 1 are those of decode, which has no 12.
+pub fn blocks_answer(
     code: Params,
     positions: &[u16],
     block: usize,
@@ -250,11 +245,14 @@ pub fn decode_outer_answer(
     page: &[u8],
     thresholds: &[u8],
 ) -> u32
-    ensures { λ r. ⌜ r ≡ decodeOuterAnswer (codeBy code (now (positions .entry))) block fits (now (page .entry)) (now (thresholds .entry)) ⌝ }
+    ensures { λ r. ⌜ r ≡ blocksAnswer (codeBy code (now (positions .entry))) block fits (now (page .entry)) (now (thresholds .entry)) ⌝ }
 {
     let number = decode_answer(code, positions, fits, page, thresholds);
     if number != 0 {
         return number;
+    }
+    if block == 1 {
+        return 0;
     }
     block_answer(code, block)
 }

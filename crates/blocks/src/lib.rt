@@ -4,6 +4,7 @@ ghost use Prim.Native.Nat.{_-_, _*_, _%_, _<_, _≤_};
 ghost use lib.Dec.{eqb, leb};
 ghost use lib.ListN.{length, getD};
 ghost use Rattle.model.specs.Symbols.{choose, Below, sumBelow};
+ghost use Rattle.theory.specs.InBlocks.{lengthOf};
 ghost use Rattle.blocks.specs.Blocks.{Doubled, WholeFrom, BrokenFrom};
 
 // The first of q, 2 q, 4 q and so on that is above n.
@@ -41,6 +42,14 @@ fn rest_of(q: u32, bound: u32, n: u32) -> u32
         rest = less(rest, m);
     }
     rest
+}
+
+// The length with which decode in blocks of so many symbols is made: blocks of 1 are those of decode, and a caller's 1, which test 12
+// refuses, is 0.
+pub fn length_of(block: u32) -> usize
+    ensures { λ r. ⌜ r ≡ lengthOf block ⌝ }
+{
+    if block == 1 { 0 } else { block as usize }
 }
 
 // Whether blocks of so many symbols make up n data symbols.

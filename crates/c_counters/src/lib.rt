@@ -50,6 +50,7 @@ pub fn decode_counters(
         fit,
         code,
         &positions[..n],
+        1,
         page,
         thresholds,
         &mut zeros,

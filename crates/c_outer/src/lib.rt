@@ -42,17 +42,21 @@ pub fn decode_outer(
         k: k as usize,
         b: b as usize,
     };
+    let length = blocks::length_of(block);
+    let mut none = [0u8; 0];
     if octets::is_small(table.len(), params::data_count(code)) {
         let mut few = [0u16; 32];
         let mut counted = [0u8; 128];
         let n = octets::read_positions(table, &mut few);
-        return c_outer_receiver::decode_outer_into(
+        return c_receiver::decode_into(
+            true,
             code,
             &few[..n],
-            block as usize,
+            length,
             page,
             thresholds,
             &mut counted,
+            &mut none,
             result,
             syndrome,
             difference,
@@ -63,13 +67,15 @@ pub fn decode_outer(
     let mut positions = [0u16; 256];
     let mut zeros = [0u8; 4096];
     let n = octets::read_positions(table, &mut positions);
-    c_outer_receiver::decode_outer_into(
+    c_receiver::decode_into(
+        true,
         code,
         &positions[..n],
-        block as usize,
+        length,
         page,
         thresholds,
         &mut zeros,
+        &mut none,
         result,
         syndrome,
         difference,

@@ -1,21 +1,21 @@
-// The C form of decode with a buffer for the zeros lent: margins and counts are written as bytes.
+// The C form of decode in blocks, with a buffer for the zeros lent: margins and counts are written as bytes.
 use params::Params;
 ghost use mathlib.Core.Path.{_≡_};
 ghost use mathlib.Core.Bool.{true};
 ghost use Prim.Native.Nat.{_*_, _≤_};
 ghost use lib.ListN.{length};
-ghost use Rattle.model.specs.Decoder.{stateBy, decodedCounts};
-ghost use Rattle.model.specs.Bytes.{cDecodeOutcome};
-ghost use Rattle.model.specs.Demand.{DecodeFalls, DecodeRecovers};
+ghost use Rattle.model.specs.Decoder.{stateBy};
 ghost use Rattle.params.specs.Codes.{codeBy};
 ghost use Rattle.theory.specs.Counters.{Clear};
+ghost use Rattle.theory.specs.InBlocks.{cDecodeForm};
 
-// Decodes a received page, with the positions read, a buffer for the zeros, and the counters that are lent, or none; `others` says whether
-// these fit. Margins and counts are written only when the call is done.
+// Decodes a received page in blocks, with the positions read, a buffer for the zeros, and the counters that are lent, or none; `others`
+// says whether these fit. Blocks of 1 are those of decode. Margins and counts are written only when the call is done.
 pub fn decode_into(
     others: bool,
     code: Params,
     positions: &[u16],
+    block: usize,
     page: &[u8],
     thresholds: &[u8],
     zeros: &mut [u8],
@@ -35,19 +35,18 @@ pub fn decode_into(
         margins = now (margins .exit);
         counts = now (counts .exit);
       };
-    } ≡ cDecodeOutcome (codeBy code (now (positions .entry))) others (now (page .entry)) (now (thresholds .entry))
+    } ≡ cDecodeForm (codeBy code (now (positions .entry))) block others (now (page .entry)) (now (thresholds .entry))
         (stateBy (now (result .entry)) (now (syndrome .entry)) (now (difference .entry))) (now (margins .entry)) (now (counts .entry)) ⌝ }
-    ensures falling { λ r. ⌜ (r ≡ 0 → DecodeFalls (codeBy code (now (positions .entry))) (now (thresholds .entry)) (now (page .entry))
-        (decodedCounts (codeBy code (now (positions .entry))) (now (thresholds .entry)) (now (page .entry)))) ⌝ }
-    ensures recovery { λ r. ⌜ (r ≡ 0 → DecodeRecovers (codeBy code (now (positions .entry))) (now (thresholds .entry)) (now (page .entry)) (now (result .exit))) ⌝ }
     ensures kept { λ r. ⌜ now (counters .exit) ≡ now (counters .entry) ⌝ }
 {
     let n = params::data_count(code);
     let bytes = answers::bytes_fit(margins.len(), n, counts.len());
     let decoded = receiver::decode_with(
         answers::also(others, bytes),
+        n,
         code,
         positions,
+        block,
         page,
         thresholds,
         zeros,

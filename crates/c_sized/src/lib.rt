@@ -1,14 +1,13 @@
-// The C form of decode with the positions read, which has the buffer for the zeros.
+// The C form of decode with the positions read, which has the buffer for the zeros and lends no counters.
 use params::Params;
 ghost use mathlib.Core.Path.{_≡_};
 ghost use mathlib.Core.Bool.{true};
 ghost use Prim.Native.Nat.{_≤_};
-ghost use Rattle.model.specs.Decoder.{stateBy, decodedCounts};
-ghost use Rattle.model.specs.Bytes.{cDecodeOutcome};
-ghost use Rattle.model.specs.Demand.{DecodeFalls, DecodeRecovers};
+ghost use Rattle.model.specs.Decoder.{stateBy};
 ghost use Rattle.params.specs.Codes.{codeBy};
+ghost use Rattle.theory.specs.InBlocks.{cDecodeForm};
 
-// Decodes a page, with the positions read. No counters are lent. A small code has a small buffer for the zeros, which costs less to clear.
+// Decodes a page, in blocks of 1, with the positions read. A small code has a small buffer for the zeros, which costs less to clear.
 pub fn decode_sized(
     code: Params,
     positions: &[u16],
@@ -28,11 +27,8 @@ pub fn decode_sized(
         margins = now (margins .exit);
         counts = now (counts .exit);
       };
-    } ≡ cDecodeOutcome (codeBy code (now (positions .entry))) true (now (page .entry)) (now (thresholds .entry))
+    } ≡ cDecodeForm (codeBy code (now (positions .entry))) 1 true (now (page .entry)) (now (thresholds .entry))
         (stateBy (now (result .entry)) (now (syndrome .entry)) (now (difference .entry))) (now (margins .entry)) (now (counts .entry)) ⌝ }
-    ensures falling { λ r. ⌜ (r ≡ 0 → DecodeFalls (codeBy code (now (positions .entry))) (now (thresholds .entry)) (now (page .entry))
-        (decodedCounts (codeBy code (now (positions .entry))) (now (thresholds .entry)) (now (page .entry)))) ⌝ }
-    ensures recovery { λ r. ⌜ (r ≡ 0 → DecodeRecovers (codeBy code (now (positions .entry))) (now (thresholds .entry)) (now (page .entry)) (now (result .exit))) ⌝ }
 {
     let mut none = [0u8; 0];
     if params::data_count(code) <= 128 {
@@ -41,6 +37,7 @@ pub fn decode_sized(
             true,
             code,
             positions,
+            1,
             page,
             thresholds,
             &mut few,
@@ -57,6 +54,7 @@ pub fn decode_sized(
         true,
         code,
         positions,
+        1,
         page,
         thresholds,
         &mut zeros,

@@ -8,7 +8,7 @@ use borrow.Rule.Slice.PartMut.{putMid, post-is}
 use lib.ListN.{length, getD, take, drop, length-append, length-take, length-drop}
 use lib.Seq.{take-all, take-at, take-take, drop-length, length-take-le}
 use Rattle.model.specs.Symbols.{add, sub, tabulate, subEach}
-use Rattle.model.specs.Code.{Code, dataCount, pageLength, checkSymbol, checkSymbols, dataOf, syndrome}
+use Rattle.model.specs.Code.{Code, dataCount, pageLength, checkSymbol, checkSymbols, codeWord, dataOf, syndrome}
 use Rattle.model.specs.Limits.{TableLimits}
 use Rattle.theory.specs.Distance.{tabulate-ext}
 use Rattle.theory.specs.Modulo.{by-eq}
@@ -35,7 +35,7 @@ module _ (c : Code) (l : TableLimits c) (u : List ℕ) (whole : c .k ≤ length 
       ∙ ap (λ (n : ℕ). getD (take (c .k) u) (sub n i (getD (c .positions) 0 0)) 0) (length-take-le (c .k) u whole)
 
   -- from that row on, the rest makes the check symbols
-  pub checks-written : added (c .q) (restSum c u (c .b)) (firstRow c u) ≡ checkSymbols c u
+  checks-written : added (c .q) (restSum c u (c .b)) (firstRow c u) ≡ checkSymbols c u
   unfolding added add checkSymbols checkSymbol
   checks-written =
       ap (λ (n : ℕ). tabulate n (λ i. (getD (firstRow c u) i 0 + restSum c u (c .b) i) % c .q)) first-length
@@ -67,6 +67,18 @@ syndrome-written c l page n len e = rw (
 ) (less-written c l (dataOf c page) (simp length-take (omega (arith, one-branch c l))) (drop (dataCount c) page))
 
 -- the page that holds v at its front, with cs written from the end of v on
-pub front-written : (u v rest cs ds : List ℕ) → v ≡ u → cs ≡ ds → putMid (length u) (length (v ++ rest) - length u) (v ++ rest) cs ≡ u ++ ds
+front-written : (u v rest cs ds : List ℕ) → v ≡ u → cs ≡ ds → putMid (length u) (length (v ++ rest) - length u) (v ++ rest) cs ≡ u ++ ds
 front-written u v rest cs ds e f =
     rw (e, f, take-at u rest (length u) refl, post-is (length u) (length (u ++ rest)) (u ++ rest) (simp length-append (omega arith)), drop-length (u ++ rest), append-nil ds) refl
+
+-- the part of a page behind its front has what is left of it
+pub behind-length : (page : List ℕ) (n m : ℕ) → length page ≡ n + m → length (take (length page - n) (drop n page)) ≡ m
+behind-length page n m e = simp (length-take, length-drop) (omega (arith, e))
+
+-- the page of the data u: u is copied to its front, the first row is written behind it, and the others are added to that
+pub page-written : (c : Code) → TableLimits c → (u v rest rs cs : List ℕ) → length u ≡ dataCount c → v ≡ u → rs ≡ firstRow c u → cs ≡ added (c .q) (restSum c u (c .b)) rs
+    → putMid (length u) (length (v ++ rest) - length u) (v ++ rest) cs ≡ codeWord c u
+unfolding codeWord
+page-written c l u v rest rs cs len e f g =
+    front-written u v rest cs (checkSymbols c u) e
+    (g ∙ ap (added (c .q) (restSum c u (c .b))) f ∙ checks-written c l u (omega (arith, len, one-branch c l)))

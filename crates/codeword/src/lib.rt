@@ -1,16 +1,17 @@
-// The page of data, and the syndrome of a page: check symbols as sums of rows, which are added two at a time and branch by branch.
+// Check symbols as sums of rows, which are added two at a time and branch by branch: the parts that a page is encoded by, and the syndrome of a page.
 use params::Params;
 ghost use mathlib.Core.Path.{_≡_};
 ghost use Prim.Native.Nat.{_≤_};
 ghost use lib.ListN.{length};
 ghost use Rattle.model.specs.Symbols.{Below};
-ghost use Rattle.model.specs.Code.{dataCount, pageLength, checkSumBy, checkSymbols, codeWord, syndrome};
+ghost use Rattle.model.specs.Code.{dataCount, pageLength, checkSumBy, syndrome};
 ghost use Rattle.model.specs.Limits.{Ascending};
 ghost use Rattle.theory.specs.Codes.{ByteCode};
 ghost use Rattle.theory.specs.Steps.{SymbolsBelow};
 ghost use Rattle.params.specs.Codes.{codeBy};
 ghost use Rattle.codeword.specs.Sums.{added};
 ghost use Rattle.codeword.specs.Rest.{restSum};
+ghost use Rattle.codeword.specs.Checks.{firstRow};
 
 // The rows of the positions of a run, added to the sums, two at a time.
 fn add_rows(q: u32, positions: &[u16], data: &[u8], sums: &mut [u8])
@@ -36,7 +37,7 @@ fn add_rows(q: u32, positions: &[u16], data: &[u8], sums: &mut [u8])
 
 // The rows of all positions but the first of the table, added to the sums: those of branch 0, then branch by branch. Branch r of the data starts at `at`,
 // and its run at `from`.
-fn add_branches(code: Params, positions: &[u16], data: &[u8], sums: &mut [u8])
+pub fn add_branches(code: Params, positions: &[u16], data: &[u8], sums: &mut [u8])
     requires { ⌜ ByteCode (codeBy code (now positions))
         × SymbolsBelow (code .q) (dataCount (codeBy code (now positions))) (now «data»)
         × SymbolsBelow (code .q) (code .k) (now sums) ⌝ }
@@ -61,29 +62,17 @@ fn add_branches(code: Params, positions: &[u16], data: &[u8], sums: &mut [u8])
     }
 }
 
-// The check symbols of the data: the row of the first position, and the others added.
-fn write_checks(code: Params, positions: &[u16], data: &[u8], checks: &mut [u8])
+// The row of the first position of the table written over the checks, which the other rows are then added to.
+pub fn first_row(code: Params, positions: &[u16], data: &[u8], checks: &mut [u8])
     requires { ⌜ ByteCode (codeBy code (now positions))
         × SymbolsBelow (code .q) (dataCount (codeBy code (now positions))) (now «data»)
         × (length (now checks) ≡ code .k) ⌝ }
-    ensures { λ _. ⌜ now (checks .exit) ≡ checkSymbols (codeBy code (now (positions .entry))) (now («data» .entry)) ⌝ }
+    ensures written { λ _. ⌜ now (checks .exit) ≡ firstRow (codeBy code (now (positions .entry))) (now («data» .entry)) ⌝ }
+    ensures below { λ _. ⌜ SymbolsBelow (code .q) (code .k) (now (checks .exit)) ⌝ }
 {
     let k = code.k;
     let first = positions[0] as usize;
     rows::copy_row(first, checks, &data[..k]);
-    add_branches(code, positions, data, checks);
-}
-
-// The page of the data: the data, then its checks.
-pub fn write_page(code: Params, positions: &[u16], data: &[u8], page: &mut [u8])
-    requires { ⌜ ByteCode (codeBy code (now positions))
-        × SymbolsBelow (code .q) (dataCount (codeBy code (now positions))) (now «data»)
-        × (length (now page) ≡ pageLength (codeBy code (now positions))) ⌝ }
-    ensures { λ _. ⌜ now (page .exit) ≡ codeWord (codeBy code (now (positions .entry))) (now («data» .entry)) ⌝ }
-{
-    let n = data.len();
-    slices::copy_into(&mut page[..n], data);
-    write_checks(code, positions, data, &mut page[n..]);
 }
 
 // The syndrome of a page: the row of the first position less the page's checks, and the other rows added.

@@ -1,4 +1,4 @@
-// The calls decode and decode_counters, which have the buffer for the zeros.
+// The calls decode and decode_counters, and what they share with decode_outer, which has the buffer for the zeros.
 use params::Params;
 pub use tally::Decoded;
 ghost use mathlib.Core.Path.{_≡_};
@@ -8,15 +8,17 @@ ghost use Rattle.model.specs.Decoder.{stateBy};
 ghost use Rattle.model.specs.Calls.{decodeOutcome, decodeCountersOutcome};
 ghost use Rattle.model.specs.Demand.{DecodeFalls, DecodeRecovers};
 ghost use Rattle.theory.specs.Counters.{Clear};
+ghost use Rattle.theory.specs.InBlocks.{decodeForm};
 
-// Decodes a received page into the result, S and D, and fills the margins from these, with the counters that are lent, or none. A small
-// code clears a small buffer for the zeros.
-fn decode_sized(
+// Decodes a received page in blocks, for every call, with the counters that are lent, or none; `others` says whether these fit. Blocks of 1
+// are those of decode. A small code clears a small buffer for the zeros.
+pub fn decode_blocks(
     others: bool,
     q: u32,
     k: u32,
     b: u32,
     positions: &[u16],
+    block: usize,
     page: &[u8],
     thresholds: &[u8],
     counters: &mut [u8],
@@ -33,11 +35,8 @@ fn decode_sized(
         margins = now (margins .exit);
         counts = record { passes = r .tally .passes; changes = r .tally .changes; start = r .tally .start; end = r .tally .end };
       };
-    } ≡ decodeOutcome (codeOf q k b (now (positions .entry))) others (now (page .entry)) (now (thresholds .entry))
+    } ≡ decodeForm (codeOf q k b (now (positions .entry))) block others (now (page .entry)) (now (thresholds .entry))
         (stateBy (now (result .entry)) (now (syndrome .entry)) (now (difference .entry))) (now (margins .entry)) ⌝ }
-    ensures falling { λ r. ⌜ (r .number ≡ 0 → DecodeFalls (codeOf q k b (now (positions .entry))) (now (thresholds .entry)) (now (page .entry))
-        (record { passes = r .tally .passes; changes = r .tally .changes; start = r .tally .start; end = r .tally .end })) ⌝ }
-    ensures recovery { λ r. ⌜ (r .number ≡ 0 → DecodeRecovers (codeOf q k b (now (positions .entry))) (now (thresholds .entry)) (now (page .entry)) (now (result .exit))) ⌝ }
     ensures kept { λ r. ⌜ now (counters .exit) ≡ now (counters .entry) ⌝ }
 {
     let code = Params {
@@ -51,6 +50,7 @@ fn decode_sized(
             others,
             code,
             positions,
+            block,
             page,
             thresholds,
             &mut few,
@@ -66,6 +66,7 @@ fn decode_sized(
         others,
         code,
         positions,
+        block,
         page,
         thresholds,
         &mut zeros,
@@ -108,12 +109,13 @@ pub fn decode_counters(
     ensures recovery { λ r. ⌜ (r .number ≡ 0 → DecodeRecovers (codeOf q k b (now (positions .entry))) (now (thresholds .entry)) (now (page .entry)) (now (result .exit))) ⌝ }
 {
     let fit = answers::counters_fit(counters);
-    decode_sized(
+    decode_blocks(
         fit,
         q,
         k,
         b,
         positions,
+        1,
         page,
         thresholds,
         counters,
@@ -151,12 +153,13 @@ pub fn decode(
     ensures recovery { λ r. ⌜ (r .number ≡ 0 → DecodeRecovers (codeOf q k b (now (positions .entry))) (now (thresholds .entry)) (now (page .entry)) (now (result .exit))) ⌝ }
 {
     let mut none = [0u8; 0];
-    decode_sized(
+    decode_blocks(
         true,
         q,
         k,
         b,
         positions,
+        1,
         page,
         thresholds,
         &mut none,

@@ -8,17 +8,18 @@ use native.Mathlib.Nat.{div-le-self, mul-le-mul-left}
 use native.Mathlib.Omega.{arith}
 use lib.Dec.{eqb}
 use lib.ListN.{length}
-use Rattle.model.specs.Bytes.{wordOf, marginBytes, bytesOf, cDecodeOutcome, cDecodeOuterOutcome, cPassOutcome, explainedBytes, cExplainOutcome}
-use Rattle.model.specs.Calls.{firstThatApplies, within, branchesFit, runsFit, sizeTests, tableTests, pageTests, tableAnswer, encodeAnswer, encodeOuterAnswer, syndromeAnswer, stateFits, decodeFits, decodeAnswer, decodeOuterAnswer, openAnswer, passAnswer, outcome, encodeOutcome, encodeOuterOutcome, syndromeOutcome, Decoded, openOutcome, Passed, passedState, passedChanges, passTests, explained, explainAnswer}
+use Rattle.model.specs.Bytes.{wordOf, marginBytes, bytesOf, cPassOutcome, explainedBytes, cExplainOutcome}
+use Rattle.model.specs.Calls.{firstThatApplies, within, branchesFit, runsFit, sizeTests, tableTests, pageTests, tableAnswer, encodeAnswer, encodeOuterAnswer, syndromeAnswer, stateFits, decodeFits, openAnswer, passAnswer, outcome, encodeOutcome, encodeOuterOutcome, syndromeOutcome, openOutcome, Passed, passedState, passedChanges, passTests, explained, explainAnswer}
 use Rattle.model.specs.Code.{Code, codeOf, codeWord, syndrome}
-use Rattle.model.specs.Decoder.{State, opened, decodedState, decodedCounts, marginsOf}
-use Rattle.model.specs.Demand.{Encodes, EncodesOuter, DecodeFalls, PassFalls, DecodeRecovers}
+use Rattle.model.specs.Decoder.{State, opened, marginsOf}
+use Rattle.model.specs.Demand.{Encodes, EncodesOuter, PassFalls}
 use Rattle.model.specs.Limits.{SizeLimits}
 use Rattle.model.specs.Outer.{outerWord, outerState, outerCounts}
 use Rattle.model.specs.Symbols.{choose}
-use Rattle.theory.specs.Answers.{refused-first, sizes-taken, page-taken, decode-taken, decode-outer-taken}
+use Rattle.theory.specs.Answers.{refused-first, sizes-taken, page-taken}
+use Rattle.theory.specs.InBlocks.{blocksAnswer, formOutcome, cDecodeForm}
 use Rattle.theory.specs.Outcomes.{left-as-lent, outcome-number}
-use Rattle.theory.specs.Statements.{decode-falls, pass-falls}
+use Rattle.theory.specs.Statements.{pass-falls}
 use Rattle.octets.specs.Positions.{kept, all-read, read-same}
 
 -- ---- too many positions are refused as none are
@@ -122,14 +123,15 @@ module _ (q k b : ℕ) (xs ps : List ℕ) (e : xs ≡ kept ps) where
       outcome-read (λ l. explainAnswer (codeOf q k b l) (eqb (length answer) 24 && stateFits (codeOf q k b l) read) t j read)
       (λ l. explainedBytes (explained (codeOf q k b l) t j read)) answer (λ l u. refused-first (sizeTests (codeOf q k b l)) _ u)
 
-  pub decode-read : (also : Bool) (page ts : List ℕ) (lent : State) (margins counts : List ℕ)
-      → cDecodeOutcome (codeOf q k b xs) also page ts lent margins counts ≡ cDecodeOutcome (codeOf q k b ps) also page ts lent margins counts
-  unfolding cDecodeOutcome decodeAnswer pageTests tableTests sizeTests
-  decode-read also page ts lent margins counts =
-      outcome-read (λ l. decodeAnswer (codeOf q k b l) ((also && (eqb (length margins) (4 * (b * k)) && eqb (length counts) 16)) && decodeFits (codeOf q k b l) page lent) page ts)
+  -- every form of decode
+  pub decode-read : (n : ℕ) (others : Bool) (page ts : List ℕ) (lent : State) (margins counts : List ℕ)
+      → cDecodeForm (codeOf q k b xs) n others page ts lent margins counts ≡ cDecodeForm (codeOf q k b ps) n others page ts lent margins counts
+  unfolding cDecodeForm formOutcome blocksAnswer pageTests tableTests sizeTests
+  decode-read n others page ts lent margins counts =
+      outcome-read (λ l. blocksAnswer (codeOf q k b l) n ((others && (eqb (length margins) (4 * (b * k)) && eqb (length counts) 16)) && decodeFits (codeOf q k b l) page lent) page ts)
       (λ l.
-      let st = decodedState (codeOf q k b l) ts page in
-      record { state = st; margins = marginBytes (marginsOf (codeOf q k b l) st); counts = bytesOf (decodedCounts (codeOf q k b l) ts page) })
+      let st = outerState (codeOf q k b l) n ts page in
+      record { state = st; margins = marginBytes (marginsOf (codeOf q k b l) st); counts = bytesOf (outerCounts (codeOf q k b l) n ts page) })
       (record { state = lent; margins = margins; counts = counts }) (λ l u. refused-first (sizeTests (codeOf q k b l)) _ u)
 
   -- a call that is done has read all positions
@@ -145,40 +147,3 @@ module _ (q k b : ℕ) (xs ps : List ℕ) (e : xs ≡ kept ps) where
 
   pub encodes-outer-read : (L : ℕ) (u sent : List ℕ) → EncodesOuter (codeOf q k b xs) L u sent → EncodesOuter (codeOf q k b ps) L u sent
   encodes-outer-read L u sent n = subst (λ (l : List ℕ). EncodesOuter (codeOf q k b l) L u sent) (encoded-read _ sent (n .encodes)) n
-
-  pub decoded-read : (others : Bool) (page ts : List ℕ) (lent : State) → decodeAnswer (codeOf q k b xs) (others && decodeFits (codeOf q k b xs) page lent) page ts ≡ 0 → xs ≡ ps
-  decoded-read others page ts lent z = sized-read (decode-taken (codeOf q k b xs) others page ts lent z .opens .usable .table .sizes)
-
-  -- decode, whole: what holds with the positions that are read holds with those of the table
-  pub decode-whole : (also : Bool) (page ts : List ℕ) (lent : State) (margins counts : List ℕ) (r : ℕ) (x : Decoded (List ℕ) (List ℕ))
-      → record { number = r; left = x } ≡ cDecodeOutcome (codeOf q k b xs) also page ts lent margins counts
-      → (r ≡ 0 → DecodeRecovers (codeOf q k b xs) ts page (x .state .result))
-      → (record { number = r; left = x } ≡ cDecodeOutcome (codeOf q k b ps) also page ts lent margins counts)
-      × (r ≡ 0 → DecodeFalls (codeOf q k b ps) ts page (decodedCounts (codeOf q k b ps) ts page))
-      × (r ≡ 0 → DecodeRecovers (codeOf q k b ps) ts page (x .state .result))
-  unfolding cDecodeOutcome
-  decode-whole also page ts lent margins counts r x o f =
-      let others : Bool = also && (eqb (length margins) (4 * (b * k)) && eqb (length counts) 16) in
-      let zero : r ≡ 0 → decodeAnswer (codeOf q k b xs) (others && decodeFits (codeOf q k b xs) page lent) page ts ≡ 0 =
-      (λ z. sym (outcome-number _ _ _ r x o) ∙ z) in
-      let same : r ≡ 0 → xs ≡ ps = (λ z. decoded-read others page ts lent (zero z)) in (
-        o ∙ decode-read also page ts lent margins counts,
-        (λ z. decode-falls (codeOf q k b ps) others page ts lent
-            (subst (λ (l : List ℕ). decodeAnswer (codeOf q k b l) (others && decodeFits (codeOf q k b l) page lent) page ts ≡ 0) (same z) (zero z))),
-        (λ z. subst (λ (l : List ℕ). DecodeRecovers (codeOf q k b l) ts page (x .state .result)) (same z) (f z)),
-      )
-
-  -- decode in blocks: what it does, and that a call that is done has read all positions
-  pub decode-outer-whole : (L : ℕ) (page ts : List ℕ) (lent : State) (margins counts : List ℕ) (r : ℕ) (x : Decoded (List ℕ) (List ℕ))
-      → record { number = r; left = x } ≡ cDecodeOuterOutcome (codeOf q k b xs) L page ts lent margins counts
-      → (record { number = r; left = x } ≡ cDecodeOuterOutcome (codeOf q k b ps) L page ts lent margins counts) × (r ≡ 0 → xs ≡ ps)
-  unfolding cDecodeOuterOutcome decodeOuterAnswer pageTests tableTests sizeTests
-  decode-outer-whole L page ts lent margins counts r x o =
-      let others : Bool = eqb (length margins) (4 * (b * k)) && eqb (length counts) 16 in (
-        o ∙ outcome-read (λ l. decodeOuterAnswer (codeOf q k b l) L (others && decodeFits (codeOf q k b l) page lent) page ts)
-            (λ l.
-            let st = outerState (codeOf q k b l) L ts page in
-            record { state = st; margins = marginBytes (marginsOf (codeOf q k b l) st); counts = bytesOf (outerCounts (codeOf q k b l) L ts page) })
-            (record { state = lent; margins = margins; counts = counts }) (λ l u. refused-first (sizeTests (codeOf q k b l)) _ u),
-        (λ z. decoded-read others page ts lent (decode-outer-taken (codeOf q k b xs) L _ page ts (sym (outcome-number _ _ _ r x o) ∙ z) .0)),
-      )

@@ -167,7 +167,7 @@ pub fn put_margins(
     requires { ⌜ Left (codeBy code (now positions)) (now s) (now d) (now zeros) end × (length (now out) ≡ 4 * dataCount (codeBy code (now positions))) ⌝ }
     ensures { λ _. ⌜ ((r : List ℕ) → now (out .exit) ≡ marginBytes (marginsOf (codeBy code (now (positions .entry))) (stateBy r (now (s .entry)) (now (d .entry))))) ⌝ }
 {
-    let n = params::data_count(code);
+    let n = d.len();
     if end == 0 {
         let each = params::checks_each(code, positions.len());
         write_firm((each + 1) as u32, n, out);

@@ -2,11 +2,14 @@
 use mathlib.Core.Path.{_≡_, ap, sym, subst, _∙_}
 use mathlib.Core.List.{List, []}
 use Prim.Native.Nat.{ℕ, _+_, _≤_}
+use native.Mathlib.Decide.{ℕ-discrete}
 use native.Mathlib.Omega.{arith}
 use Rattle.model.specs.Code.{Code, dataCount, checkCount, checksOf}
 use Rattle.model.specs.Decoder.{State, after, dataSymbols, opened, passesOf, run, distanceTo, decodedState, decodedCounts, stateWeight}
 use Rattle.model.specs.Outer.{blockCount, outerSteps, stepCount, outerState, outerCounts}
 use Rattle.theory.specs.Answers.{Opens, BlockFits}
+use Rattle.theory.specs.InBlocks.{Blocks}
+use Rattle.theory.specs.Statements.{one-block}
 use Rattle.theory.specs.Decoding.{OnPage, on-distance, code-on, code-falls, code-distance, code-opened-sized}
 use Rattle.theory.specs.Falling.{InRange, changes-spent}
 use Rattle.theory.specs.Moments.{weight-few}
@@ -66,25 +69,40 @@ module _ (c : Code) (L : ℕ) (ts page : List ℕ) (lent : State) (o : Opens c p
   }
 
   -- and what the steps leave
-  pub corrected-on : BlockFits c L → OnPage c page (outerState c L ts page)
+  stepped-on : BlockFits c L → OnPage c page (outerState c L ts page)
   unfolding outerState
-  corrected-on fits = steps-on c L fits (o .usable) page (o .whole) (blockCount c L) (omega arith) st passes-on
+  stepped-on fits = steps-on c L fits (o .usable) page (o .whole) (blockCount c L) (omega arith) st passes-on
 
-  module _ (fits : BlockFits c L) (p : Progress) (e : p ≡ decoded c ts page) where
+  pub corrected-on : Blocks c L → OnPage c page (outerState c L ts page)
+  corrected-on fits = elim (ℕ-discrete L 1) as (λ x. OnPage c page (outerState c L ts page)) [
+    | yes y ↦ subst (OnPage c page) (sym (ap (λ (n : ℕ). outerState c n ts page) y ∙ one-block c ts page .0)) passes-on
+    | no n ↦ stepped-on (fits n)
+  ]
+
+  module _ (p : Progress) (e : p ≡ decoded c ts page) where
     pub passed-ready : Ready c (p .state)
     passed-ready = subst (λ (y : Progress). Ready c (y .state)) (sym e) passes-ready
 
-    -- at distance 0 no step is made
-    pub clean-corrected : p .tally .end ≡ 0 → p ≡ corrected c L ts page
+    -- in blocks of 1 no step is made
+    pub one-corrected : L ≡ 1 → p ≡ corrected c L ts page
+    one-corrected y =
+        let one = one-block c ts page in
+        e ∙ (λ i. record { state = sym (one .0) i; tally = tallyOf (sym (one .1) i) }) ∙ ap (λ (n : ℕ). corrected c n ts page) (sym y)
+
+    -- and none at distance 0
+    pub clean-corrected : Blocks c L → p .tally .end ≡ 0 → p ≡ corrected c L ts page
     unfolding decodedCounts
-    clean-corrected z =
-        let n = no-steps c L st (blockCount c L)
-        (λ i h. clean-no-step c L fits (o .usable) page (o .whole) i h st (decoded-distance c page lent o ts ∙ sym (ap (λ (y : Progress). y .tally .end) e) ∙ z)) in
-        e ∙ as-passed (n .0) (n .1)
+    clean-corrected fits z = elim (ℕ-discrete L 1) as (λ x. p ≡ corrected c L ts page) [
+      | yes y ↦ one-corrected y
+      | no m ↦
+          let n = no-steps c L st (blockCount c L)
+          (λ i h. clean-no-step c L (fits m) (o .usable) page (o .whole) i h st (decoded-distance c page lent o ts ∙ sym (ap (λ (y : Progress). y .tally .end) e) ∙ z)) in
+          e ∙ as-passed (n .0) (n .1)
+    ]
 
     -- ---- what the steps leave
 
-    module _ (x : Stepped) (f : x ≡ stepsTo c L (blockCount c L) (p .state)) where
+    module _ (fits : BlockFits c L) (x : Stepped) (f : x ≡ stepsTo c L (blockCount c L) (p .state)) where
       from-passed : x ≡ stepsTo c L (blockCount c L) st
       from-passed = f ∙ ap (λ (y : Progress). stepsTo c L (blockCount c L) (y .state)) e
 
@@ -124,6 +142,6 @@ module _ (c : Code) (L : ℕ) (ts page : List ℕ) (lent : State) (o : Opens c p
               passes = e i .tally .passes;
               changes = e i .tally .changes + from-passed i .steps;
               start = e i .tally .start;
-              end = (g ∙ ap (λ (y : Stepped). stateWeight (y .state)) from-passed ∙ sym (on-distance c (o .usable) page (o .whole) (outerSteps c L (blockCount c L) st) (corrected-on fits))) i;
+              end = (g ∙ ap (λ (y : Stepped). stateWeight (y .state)) from-passed ∙ sym (on-distance c (o .usable) page (o .whole) (outerSteps c L (blockCount c L) st) (stepped-on fits))) i;
             };
           }

@@ -1,4 +1,4 @@
-// The correction of a page in blocks: the passes, then the outer steps where the passes leave a distance.
+// The correction of a page in blocks, for every form of decode: the passes, then the outer steps where the passes leave a distance.
 use params::Params;
 use tally::Tally;
 ghost use mathlib.Core.Path.{_≡_};
@@ -7,13 +7,17 @@ ghost use lib.ListN.{length};
 ghost use Rattle.model.specs.Code.{dataCount};
 ghost use Rattle.model.specs.Decoder.{stateBy};
 ghost use Rattle.params.specs.Codes.{codeBy};
-ghost use Rattle.theory.specs.Answers.{Taken, BlockFits};
+ghost use Rattle.theory.specs.Answers.{Taken};
+ghost use Rattle.theory.specs.Counters.{Clear};
+ghost use Rattle.theory.specs.InBlocks.{Blocks};
 ghost use Rattle.visits.specs.Progress.{progress};
 ghost use Rattle.zeros.specs.Counts.{zeroCounts};
 ghost use Rattle.outer_correction.specs.Corrected.{corrected};
 
-// Corrects a page that was tested. Where the passes leave no distance no block has a step, whatever it sums to.
+// Corrects a page that was tested. Where the passes leave no distance no block has a step, whatever it sums to; blocks of 1, which are
+// those of decode, have none.
 // zeros has one byte a data symbol; afterwards, where the distance at the end is not 0, the zeros at the checks of each.
+// counters are 256 for a vote by them, or none, and all zero.
 pub fn correct_page(
     code: Params,
     positions: &[u16],
@@ -21,41 +25,44 @@ pub fn correct_page(
     page: &[u8],
     thresholds: &[u8],
     zeros: &mut [u8],
+    counters: &mut [u8],
     result: &mut [u8],
     s: &mut [u8],
     d: &mut [u8],
 ) -> Tally
     requires { ⌜ Taken (codeBy code (now positions)) (now page) (now thresholds) (stateBy (now result) (now s) (now d))
-        × BlockFits (codeBy code (now positions)) block
-        × (length (now zeros) ≡ dataCount (codeBy code (now positions))) ⌝ }
+        × Blocks (codeBy code (now positions)) block
+        × (length (now zeros) ≡ dataCount (codeBy code (now positions)))
+        × Clear (now counters) ⌝ }
     ensures done { λ t. ⌜ progress (now (result .exit)) (now (s .exit)) (now (d .exit)) t
         ≡ corrected (codeBy code (now (positions .entry))) block (now (thresholds .entry)) (now (page .entry)) ⌝ }
     ensures counted { λ t. ⌜ (t .end ≢ 0 → now (zeros .exit) ≡ zeroCounts (codeBy code (now (positions .entry))) (now (s .exit))) ⌝ }
+    ensures kept { λ t. ⌜ now (counters .exit) ≡ now (counters .entry) ⌝ }
 {
-    let mut none = [0u8; 0];
     let ran = correction::decode_page(
         code,
         positions,
         page,
         thresholds,
         zeros,
-        &mut none,
+        counters,
         result,
         s,
         d,
     );
-    if ran.end == 0 {
-        return ran;
+    if ran.end != 0 {
+        if block != 1 {
+            let steps = outer_steps::outer_steps(code, positions, block, result, s, d);
+            if steps != 0 {
+                zeros::count_zeros(code, positions, s, zeros);
+                return Tally {
+                    passes: ran.passes,
+                    changes: ran.changes + steps,
+                    start: ran.start,
+                    end: correction::state_weight(d, s),
+                };
+            }
+        }
     }
-    let steps = outer_steps::outer_steps(code, positions, block, result, s, d);
-    if steps == 0 {
-        return ran;
-    }
-    zeros::count_zeros(code, positions, s, zeros);
-    Tally {
-        passes: ran.passes,
-        changes: ran.changes + steps,
-        start: ran.start,
-        end: correction::state_weight(d, s),
-    }
+    ran
 }

@@ -1,5 +1,4 @@
-// The call decode_outer, which has the buffer for the zeros.
-use params::Params;
+// The call decode_outer.
 pub use tally::Decoded;
 ghost use mathlib.Core.Path.{_≡_};
 ghost use Rattle.model.specs.Code.{codeOf};
@@ -8,7 +7,7 @@ ghost use Rattle.model.specs.Calls.{decodeOuterOutcome};
 ghost use Rattle.model.specs.Demand.{OuterFalls, OuterRecovers};
 
 // Decodes a received page whose data was sent in blocks with an outer check: the passes, then the outer steps, and the margins after
-// them. A small code clears a small buffer for the zeros.
+// them.
 pub fn decode_outer(
     q: u32,
     k: u32,
@@ -36,34 +35,18 @@ pub fn decode_outer(
     ensures recovery { λ r. ⌜ (r .number ≡ 0 → OuterRecovers (codeOf q k b (now (positions .entry))) block (now (thresholds .entry)) (now (page .entry)) (now (result .exit))
         (record { passes = r .tally .passes; changes = r .tally .changes; start = r .tally .start; end = r .tally .end })) ⌝ }
 {
-    let code = Params {
+    let length = blocks::length_of(block);
+    let mut none = [0u8; 0];
+    decoder::decode_blocks(
+        true,
         q,
-        k: k as usize,
-        b: b as usize,
-    };
-    if params::data_count(code) <= 128 {
-        let mut few = [0u8; 128];
-        return outer_receiver::decode_outer_into(
-            code,
-            positions,
-            block as usize,
-            page,
-            thresholds,
-            &mut few,
-            result,
-            syndrome,
-            difference,
-            margins,
-        );
-    }
-    let mut zeros = [0u8; 4096];
-    outer_receiver::decode_outer_into(
-        code,
+        k,
+        b,
         positions,
-        block as usize,
+        length,
         page,
         thresholds,
-        &mut zeros,
+        &mut none,
         result,
         syndrome,
         difference,

@@ -80,7 +80,11 @@ pub fn encode_outer(
     if number != 0 {
         return number;
     }
-    codeword::write_page(code, positions, data, page);
+    let end = data.len();
+    slices::copy_into(&mut page[..end], data);
+    let checks = &mut page[end..];
+    codeword::first_row(code, positions, data, checks);
+    codeword::add_branches(code, positions, data, checks);
     write_outer_checks(code, positions, block as usize, data, page);
     0
 }

@@ -22,7 +22,11 @@ pub fn encode(q: u32, k: u32, b: u32, positions: &[u16], data: &[u8], page: &mut
     if number != 0 {
         return number;
     }
-    codeword::write_page(code, positions, data, page);
+    let end = data.len();
+    slices::copy_into(&mut page[..end], data);
+    let checks = &mut page[end..];
+    codeword::first_row(code, positions, data, checks);
+    codeword::add_branches(code, positions, data, checks);
     0
 }
 

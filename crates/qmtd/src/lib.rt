@@ -11,9 +11,9 @@ ghost use Rattle.model.specs.Demand.{Encodes, EncodesOuter, DecodeFalls, Decode
 // The version: major times 10,000 plus minor times 100 plus patch.
 #[no_mangle]
 pub extern "C" fn qmtd_version() -> u32
-    ensures { λ r. ⌜ r ≡ 900 ⌝ }
+    ensures { λ r. ⌜ r ≡ 901 ⌝ }
 {
-    900
+    901
 }
 
 // Checks a code table.

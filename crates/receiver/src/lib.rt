@@ -1,4 +1,5 @@
-// Decode with a buffer for the zeros lent: the tests and the correction, for every form of the call, and the Rattle form.
+// Decode with a buffer for the zeros lent: the tests and the correction, for every form of the call, and the Rattle form. All decode in
+// blocks: decode in blocks of 1.
 use params::Params;
 use tally::Decoded;
 use tally::Tally;
@@ -7,20 +8,22 @@ ghost use mathlib.Core.Bool.{true, _&&_};
 ghost use Prim.Native.Nat.{_*_, _≤_};
 ghost use lib.ListN.{length};
 ghost use Rattle.model.specs.Decoder.{stateBy};
-ghost use Rattle.model.specs.Calls.{decodeFits, decodeOutcome};
-ghost use Rattle.model.specs.Demand.{DecodeFalls, DecodeRecovers};
+ghost use Rattle.model.specs.Calls.{decodeFits};
 ghost use Rattle.params.specs.Codes.{codeBy};
 ghost use Rattle.theory.specs.Counters.{Clear};
+ghost use Rattle.theory.specs.InBlocks.{decodeForm};
 ghost use Rattle.margins.specs.Margins.{Left};
 ghost use Rattle.receiver.specs.Received.{countsOf, ranOutcome};
 
 // Decodes a received page into the result, S and D, for every form of the call: `others` says whether the buffers that only
-// one form lends fit, and zeros, which the form keeps on its stack, is what the margins are then filled from. The visits vote by
-// the counters, where 256 are lent.
+// one form lends fit, n is the number of data symbols, and zeros, which the form keeps on its stack, is what the margins are then
+// filled from. The visits vote by the counters, where 256 are lent.
 pub fn decode_with(
     others: bool,
+    n: usize,
     code: Params,
     positions: &[u16],
+    block: usize,
     page: &[u8],
     thresholds: &[u8],
     zeros: &mut [u8],
@@ -29,23 +32,18 @@ pub fn decode_with(
     syndrome: &mut [u8],
     difference: &mut [u8],
 ) -> Decoded
-    requires { ⌜ (code .k ≤ 4294967295) × (code .b ≤ 4294967295) × (code .b * code .k ≤ 4096 → code .b * code .k ≤ length (now zeros))
-        × (others ≡ true → Clear (now counters)) ⌝ }
+    requires { ⌜ (n ≡ code .b * code .k) × (n ≤ 4096 → n ≤ length (now zeros)) × (others ≡ true → Clear (now counters)) ⌝ }
     ensures outcome { λ r. ⌜ record {
       number = r .number;
       left = record { state = stateBy (now (result .exit)) (now (syndrome .exit)) (now (difference .exit)); counts = countsOf (r .tally) };
-    } ≡ ranOutcome (codeBy code (now (positions .entry)))
+    } ≡ ranOutcome (codeBy code (now (positions .entry))) block
         (others && decodeFits (codeBy code (now (positions .entry))) (now (page .entry))
         (stateBy (now (result .entry)) (now (syndrome .entry)) (now (difference .entry))))
         (now (page .entry)) (now (thresholds .entry))
         (stateBy (now (result .entry)) (now (syndrome .entry)) (now (difference .entry))) ⌝ }
     ensures left { λ r. ⌜ (r .number ≡ 0 → Left (codeBy code (now (positions .entry))) (now (syndrome .exit)) (now (difference .exit)) (now (zeros .exit)) (r .tally .end)) ⌝ }
-    ensures falling { λ r. ⌜ (r .number ≡ 0 → DecodeFalls (codeBy code (now (positions .entry))) (now (thresholds .entry)) (now (page .entry))
-        (countsOf (r .tally))) ⌝ }
-    ensures recovery { λ r. ⌜ (r .number ≡ 0 → DecodeRecovers (codeBy code (now (positions .entry))) (now (thresholds .entry)) (now (page .entry)) (now (result .exit))) ⌝ }
     ensures kept { λ r. ⌜ now (counters .exit) ≡ now (counters .entry) ⌝ }
 {
-    let n = params::data_count(code);
     let fits = answers::decode_fits(
         others,
         n,
@@ -55,16 +53,17 @@ pub fn decode_with(
         syndrome.len(),
         difference.len(),
     );
-    let number = answers::decode_answer(code, positions, fits, page, thresholds);
+    let number = answers::blocks_answer(code, positions, block, fits, page, thresholds);
     if number != 0 {
         return Decoded {
             number,
             tally: Tally::opened(0),
         };
     }
-    let tally = correction::decode_page(
+    let tally = outer_correction::correct_page(
         code,
         positions,
+        block,
         page,
         thresholds,
         &mut zeros[..n],
@@ -81,6 +80,7 @@ pub fn decode_into(
     others: bool,
     code: Params,
     positions: &[u16],
+    block: usize,
     page: &[u8],
     thresholds: &[u8],
     zeros: &mut [u8],
@@ -99,18 +99,17 @@ pub fn decode_into(
         margins = now (margins .exit);
         counts = countsOf (r .tally);
       };
-    } ≡ decodeOutcome (codeBy code (now (positions .entry))) others (now (page .entry)) (now (thresholds .entry))
+    } ≡ decodeForm (codeBy code (now (positions .entry))) block others (now (page .entry)) (now (thresholds .entry))
         (stateBy (now (result .entry)) (now (syndrome .entry)) (now (difference .entry))) (now (margins .entry)) ⌝ }
-    ensures falling { λ r. ⌜ (r .number ≡ 0 → DecodeFalls (codeBy code (now (positions .entry))) (now (thresholds .entry)) (now (page .entry))
-        (countsOf (r .tally))) ⌝ }
-    ensures recovery { λ r. ⌜ (r .number ≡ 0 → DecodeRecovers (codeBy code (now (positions .entry))) (now (thresholds .entry)) (now (page .entry)) (now (result .exit))) ⌝ }
     ensures kept { λ r. ⌜ now (counters .exit) ≡ now (counters .entry) ⌝ }
 {
     let n = params::data_count(code);
     let got = decode_with(
         answers::also(others, margins.len() == n),
+        n,
         code,
         positions,
+        block,
         page,
         thresholds,
         zeros,

@@ -262,15 +262,7 @@ block-taken c L e =
     let z : dataCount c % L ≡ 0 = eqb-true (dataCount c % L) 0 (b .1) in
     record { low = leb→le 2 L (subst T (sym (b .0)) tt); divides = omega (arith, div-add-mod' (dataCount c) L) }
 
--- encode in blocks of L: its number is encode's where that is not 0, else the test of L gives it
-pub encode-outer-refused : (c : Code) (L : ℕ) (u : List ℕ) (n : ℕ) → encodeAnswer c u n ≢ 0 → encodeOuterAnswer c L u n ≡ encodeAnswer c u n
-unfolding encodeAnswer encodeOuterAnswer
-encode-outer-refused c L u n z = refused-first (encodeTests c u n) (blockTest c L) z
-
-pub encode-outer-passed : (c : Code) (L : ℕ) (u : List ℕ) (n : ℕ) → encodeAnswer c u n ≡ 0 → encodeOuterAnswer c L u n ≡ firstThatApplies (blockTest c L)
-unfolding encodeAnswer encodeOuterAnswer pageTests tableTests sizeTests
-encode-outer-passed c L u n z = passed-first (encodeTests c u n) (blockTest c L) refl z
-
+-- encode in blocks of L
 pub encode-outer-taken : (c : Code) (L : ℕ) (u : List ℕ) (n : ℕ) → encodeOuterAnswer c L u n ≡ 0 → (encodeAnswer c u n ≡ 0) × BlockFits c L
 unfolding encodeAnswer encodeOuterAnswer pageTests tableTests sizeTests
 encode-outer-taken c L u n e = let t = taken-first (encodeTests c u n) (blockTest c L) refl e in (t .0, block-taken c L (t .1))
@@ -356,17 +348,7 @@ decode-taken c others page ts lent e =
       small = taken-by 8 (allBelow 33 ts) [] (some .1) .0;
     }
 
--- decode in blocks of L: its number is decode's where that is not 0, else the test of L gives it
-pub decode-outer-refused : (c : Code) (L : ℕ) (fits : Bool) (page thresholds : List ℕ) → decodeAnswer c fits page thresholds ≢ 0
-    → decodeOuterAnswer c L fits page thresholds ≡ decodeAnswer c fits page thresholds
-unfolding decodeAnswer decodeOuterAnswer
-decode-outer-refused c L fits page ts z = refused-first (decodeTests c fits page ts) (blockTest c L) z
-
-pub decode-outer-passed : (c : Code) (L : ℕ) (fits : Bool) (page thresholds : List ℕ) → decodeAnswer c fits page thresholds ≡ 0
-    → decodeOuterAnswer c L fits page thresholds ≡ firstThatApplies (blockTest c L)
-unfolding decodeAnswer decodeOuterAnswer pageTests tableTests sizeTests thresholdTests
-decode-outer-passed c L fits page ts z = passed-first (decodeTests c fits page ts) (blockTest c L) refl z
-
+-- decode in blocks of L
 pub decode-outer-taken : (c : Code) (L : ℕ) (fits : Bool) (page thresholds : List ℕ) → decodeOuterAnswer c L fits page thresholds ≡ 0
     → (decodeAnswer c fits page thresholds ≡ 0) × BlockFits c L
 unfolding decodeAnswer decodeOuterAnswer pageTests tableTests sizeTests thresholdTests

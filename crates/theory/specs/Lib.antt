@@ -26,5 +26,6 @@ pub mod Integers
 pub mod OuterCheck
 pub mod Margins
 pub mod Statements
+pub mod InBlocks
 pub mod Turns
 pub mod Written

@@ -4,19 +4,18 @@ use mathlib.Core.Logic.{_≢_}
 use mathlib.Core.Bool.{Bool, true, false, not, _&&_}
 use mathlib.Core.List.{List, [], _∷_}
 use Prim.Native.Nat.{ℕ, zero, suc, _+_, _-_, _*_, _/_, _%_, _≤_, _<_}
-use native.Mathlib.Nat.{mod-lt, mod-mod, mod-add-mod, add-mod-mod, mod-eq-of-lt}
+use native.Mathlib.Nat.{mod-lt, add-mod-mod, mod-eq-of-lt}
 use native.Mathlib.Decide.{ℕ-discrete}
 use native.Mathlib.Omega.{arith}
 use lib.Arith.{digits-lt, digits-div, digits-mod}
-use lib.Dec.{T, eqb, ltb, ltb→lt}
-use lib.IntN.{pos, _+ℤ_, _-ℤ_}
+use lib.Dec.{eqb, ltb, ltb→lt}
+use lib.IntN.{pos, _-ℤ_}
 use lib.ListN.{length, getD}
-use lib.Signed.{ltZ}
 use Rattle.model.specs.Code.{Code, dataCount, pageLength, checksEach, checksOf}
 use Rattle.model.specs.Decoder.{State, estimates, change, distanceTo, stateWeight}
 use Rattle.model.specs.Demand.{KeepsOuter, StepAdds}
 use Rattle.model.specs.Outer.{partSum, blockSum, blockCount, outerWord, reliability, reliabilityOf, leastBelow, weakest, isStep, outerStep, outerSteps, stepCount}
-use Rattle.model.specs.Symbols.{choose, bit, sub, count, weight, Below, sumBelow, tabulate, symbolsAt}
+use Rattle.model.specs.Symbols.{choose, bit, sub, count, weight, Below, sumBelow, symbolsAt}
 use Rattle.theory.specs.Answers.{BlockFits}
 use Rattle.theory.specs.Codes.{Usable, code-incidence}
 use Rattle.theory.specs.Counting.{is-false, eqb-yes, eqb-no, differ-yes, differ-no, length-symbolsAt, sum-ext, misses, count-misses, count-other}
@@ -26,6 +25,10 @@ use Rattle.theory.specs.Falling.{choose-case}
 use Rattle.theory.specs.Integers.{minus-ltZ, minus-eq, gained, Least, least-is}
 use Rattle.theory.specs.Modulo.{by-eq, sub-lt, sub-add}
 use Rattle.theory.specs.Steps.{SymbolsBelow}
+
+and-false : (b : Bool) → (b && false) ≡ false
+and-false true = refl
+and-false false = refl
 
 -- where a block has no step the state is left, and where it has one it is a change by the block's sum
 pub step-no : (c : Code) (L i : ℕ) (st : State) → isStep c L i st ≡ false → outerStep c L i st ≡ st
@@ -53,6 +56,15 @@ no-steps c L st (suc n) f =
     let ih = no-steps c L st n (λ i h. f i (omega arith)) in
     let z : isStep c L n st ≡ false = f n (omega arith) in
     rw (ih .0, ih .1, z) (step-no c L n st z, refl)
+
+-- a block of 1 has none: its first and its last symbol are the same, and no reliability is below itself
+pub one-no-step : (c : Code) (i : ℕ) (st : State) → isStep c 1 i st ≡ false
+unfolding isStep weakest leastBelow reliability
+one-no-step c i st =
+    let es : List ℕ = estimates (checksOf c (i * 1 + 0)) (i * 1 + 0) st in
+    let e : ℕ = blockSum (c .q) 1 (st .result) i in
+    rw (minus-ltZ (count 0 es) (count e es) (count 0 es) (count e es), is-false (ltb (count 0 es + count e es) (count 0 es + count e es)) (λ t. absurd (omega (arith, ltb→lt (count 0 es + count e es) (count 0 es + count e es) t))))
+    (and-false (not (eqb e 0)))
 
 -- where S and D are all 0 every reliability is that of J + 1 zeros, so no block has a step
 weight-at : (s : List ℕ) → weight s ≡ 0 → (i : ℕ) → getD s i 0 ≡ 0

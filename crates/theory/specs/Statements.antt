@@ -33,7 +33,7 @@ use Rattle.theory.specs.Integers.{Least}
 use Rattle.theory.specs.Margins.{margin-low, margin-high, margin-top, margin-bottom, other-zero, margin-stays, margin-at}
 use Rattle.theory.specs.Moments.{result-is, syndrome-is, changes-few, weight-few}
 use Rattle.theory.specs.OneBranch.{firstTests, run-all, checks-all, check-all, differences-all, answer-all}
-use Rattle.theory.specs.OuterCheck.{zero-no-step, no-steps, clean-no-step, weakest-least, steps-on, step-adds, steps-few, outer-other, outer-symbols, outer-keeps}
+use Rattle.theory.specs.OuterCheck.{zero-no-step, one-no-step, no-steps, clean-no-step, weakest-least, steps-on, step-adds, steps-few, outer-other, outer-symbols, outer-keeps}
 use Rattle.theory.specs.PassCalls.{calls-made, takenOf, calls-taken, taken-all, all-small}
 use Rattle.theory.specs.Runs.{range-pass, range-passes, symbols-range, symbols-visited}
 use Rattle.theory.specs.Schedule.{smallest-in, smallest-least, runs-few, runs-of, smallest-run, followed, minima}
@@ -479,6 +479,22 @@ pub outer-weakest : (c : Code) (L : ℕ) → BlockFits c L → (i e : ℕ) (st :
     → (p : ℕ) × (weakest c L i e st ≡ i * L + p) × Least (L - 1) (λ p. reliabilityOf c e st (i * L + p)) p
 unfolding weakest
 outer-weakest c L f i e st = (leastBelow (L - 1) (λ p. reliabilityOf c e st (i * L + p)), refl, weakest-least c L f i e st)
+
+-- Decode is decode in blocks of 1: these have no step.
+pub one-block : (c : Code) (thresholds page : List ℕ)
+    → (outerState c 1 thresholds page ≡ decodedState c thresholds page) × (outerCounts c 1 thresholds page ≡ decodedCounts c thresholds page)
+unfolding outerState outerCounts decodedCounts
+one-block c thresholds page =
+    let none = no-steps c 1 (decodedState c thresholds page) (blockCount c 1) (λ i _. one-no-step c i (decodedState c thresholds page)) in
+    let passed : Counts = decodedCounts c thresholds page in (
+      none .0,
+      λ i. record {
+        passes = passed .passes;
+        changes = (let n : passed .changes + stepCount c 1 (blockCount c 1) (decodedState c thresholds page) ≡ passed .changes = omega (arith, none .1) in n) i;
+        start = passed .start;
+        end = distanceTo c page (none .0 i);
+      },
+    )
 
 module _ (c : Code) (L : ℕ) (others : Bool) (page thresholds : List ℕ) (lent : State) (e : decodeOuterAnswer c L (others && decodeFits c page lent) page thresholds ≡ 0) where
   answers : (decodeAnswer c (others && decodeFits c page lent) page thresholds ≡ 0) × BlockFits c L

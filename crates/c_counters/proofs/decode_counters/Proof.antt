@@ -7,8 +7,9 @@ use lib.Seq.{length-take-le}
 use Rattle.model.specs.Bytes.{positionsOf, cDecodeOutcome, cDecodeCountersOutcome}
 use Rattle.model.specs.Code.{codeOf}
 use Rattle.model.specs.Decoder.{stateBy}
-use Rattle.octets.specs.Reads.{decode-whole}
+use Rattle.octets.specs.Reads.{decode-read}
 use Rattle.theory.specs.Counters.{fit-clear}
+use Rattle.theory.specs.InBlocks.{c-decode-done}
 use Rattle.c_counters.proofs.decode_counters.Statement.{statement}
 use Rattle.c_counters.proofs.decode_counters.Tie as tie
 
@@ -58,12 +59,14 @@ returns c =
     let r = d .before .before .before .before .before .before .before .before .before .before in
     let f = r .before .before in
     let a = f .before .before .before .before .before .before .before .before .before .before .before .args in
-    let code = codeOf (a .q) (a .k) (a .b) (positionsOf (a .table .now)) in
+    let ps = positionsOf (a .table .now) in
+    let code = codeOf (a .q) (a .k) (a .b) ps in
     let lent = stateBy (a .result .now) (a .syndrome .now) (a .difference .now) in
     let e = d .decode-into .ensures in
-    let w = decode-whole (a .q) (a .k) (a .b) _ (positionsOf (a .table .now)) (r .read-positions .ensures .1) (f .counters-fit .result) (a .page .now) (a .thresholds .now) lent (a .margins .now) (a .counts .now) _ _ (e .0) (e .1 .1 .0) in
-    let given = w .0 ∙ ap (λ (b : Bool). cDecodeOutcome code b (a .page .now) (a .thresholds .now) lent (a .margins .now) (a .counts .now)) (f .counters-fit .ensures) in
-    (λ i. record { given = given i; counters = e .1 .1 .1 i }, (w .1, w .2))
+    let done = c-decode-done code (f .counters-fit .result) (a .page .now) (a .thresholds .now) lent (a .margins .now) (a .counts .now) _ _
+    (e .0 ∙ decode-read (a .q) (a .k) (a .b) _ ps (r .read-positions .ensures .1) 1 (f .counters-fit .result) (a .page .now) (a .thresholds .now) lent (a .margins .now) (a .counts .now)) in
+    let given = done .0 ∙ ap (λ (b : Bool). cDecodeOutcome code b (a .page .now) (a .thresholds .now) lent (a .margins .now) (a .counts .now)) (f .counters-fit .ensures) in
+    (λ i. record { given = given i; counters = e .1 i }, done .1)
 
 pub decode-counters-spec : {M : Type 1} → statement M
 decode-counters-spec =

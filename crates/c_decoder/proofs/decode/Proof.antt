@@ -1,6 +1,6 @@
 -- `decode`: what holds of decode with the positions that are read holds with those of the table, in either buffer.
 use borrow.Author.Needs.{needs}
-use mathlib.Core.Path.{_≡_, sym}
+use mathlib.Core.Path.{_≡_, sym, _∙_}
 use mathlib.Core.Bool.{true}
 use mathlib.Core.List.{List}
 use Prim.Native.Nat.{ℕ}
@@ -12,7 +12,8 @@ use Rattle.model.specs.Code.{codeOf}
 use Rattle.model.specs.Decoder.{stateBy, decodedCounts}
 use Rattle.model.specs.Demand.{DecodeFalls, DecodeRecovers}
 use Rattle.octets.specs.Positions.{kept}
-use Rattle.octets.specs.Reads.{decode-whole}
+use Rattle.octets.specs.Reads.{decode-read}
+use Rattle.theory.specs.InBlocks.{cDecodeForm, c-decode-done}
 use Rattle.c_decoder.proofs.decode.Statement.{statement}
 use Rattle.c_decoder.proofs.decode.Tie as tie
 
@@ -20,24 +21,28 @@ use Rattle.c_decoder.proofs.decode.Tie as tie
 abbrev start : tie.After-slice-known5 → tie.Start
 start c = c .before .before .before .before .before .before .before .before
 
--- what the contract says of the number r and what is left, x, with positions ps
-abbrev Holds : tie.Start → List ℕ → ℕ → Decoded (List ℕ) (List ℕ) → Type 0
-Holds s ps r x =
+-- what the contract says of the number r and what is left, x
+abbrev Holds : tie.Start → ℕ → Decoded (List ℕ) (List ℕ) → Type 0
+Holds s r x =
     let a = s .args in
-    let c = codeOf (a .q) (a .k) (a .b) ps in
+    let c = codeOf (a .q) (a .k) (a .b) (positionsOf (a .table .now)) in
     let lent = stateBy (a .result .now) (a .syndrome .now) (a .difference .now) in
     (record { number = r; left = x } ≡ cDecodeOutcome c true (a .page .now) (a .thresholds .now) lent (a .margins .now) (a .counts .now))
     × ((r ≡ 0 → DecodeFalls c (a .thresholds .now) (a .page .now) (decodedCounts c (a .thresholds .now) (a .page .now)))
     × (r ≡ 0 → DecodeRecovers c (a .thresholds .now) (a .page .now) (x .state .result)))
 
--- what holds with the positions that are read, xs, holds with those of the table
+-- it follows from what is left with the positions that are read, xs
 whole : (s : tie.Start) (xs : List ℕ) → xs ≡ kept (positionsOf (s .args .table .now)) → (r : ℕ) (x : Decoded (List ℕ) (List ℕ))
-    → Holds s xs r x → Holds s (positionsOf (s .args .table .now)) r x
+    → (let a = s .args in
+    record { number = r; left = x }
+    ≡ cDecodeForm (codeOf (a .q) (a .k) (a .b) xs) 1 true (a .page .now) (a .thresholds .now) (stateBy (a .result .now) (a .syndrome .now) (a .difference .now)) (a .margins .now) (a .counts .now))
+    → Holds s r x
 whole s xs e r x h =
     let a = s .args in
+    let ps = positionsOf (a .table .now) in
     let lent = stateBy (a .result .now) (a .syndrome .now) (a .difference .now) in
-    let w = decode-whole (a .q) (a .k) (a .b) xs (positionsOf (a .table .now)) e true (a .page .now) (a .thresholds .now) lent (a .margins .now) (a .counts .now) r x (h .0) (h .1 .1) in
-    (w .0, (w .1, w .2))
+    c-decode-done (codeOf (a .q) (a .k) (a .b) ps) true (a .page .now) (a .thresholds .now) lent (a .margins .now) (a .counts .now) r x
+    (h ∙ decode-read (a .q) (a .k) (a .b) xs ps e 1 true (a .page .now) (a .thresholds .now) lent (a .margins .now) (a .counts .now))
 
 slice-aggregate-read-positions : tie.Need-slice-aggregate-read-positions
 slice-aggregate-read-positions c = search needs

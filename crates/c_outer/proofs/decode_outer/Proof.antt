@@ -1,6 +1,7 @@
 -- `decode_outer`: what holds of decode in blocks with the positions that are read holds with those of the table, in either buffer.
 use borrow.Author.Needs.{needs}
-use mathlib.Core.Path.{_≡_, sym, subst}
+use mathlib.Core.Path.{_≡_, sym, _∙_, ap}
+use mathlib.Core.Bool.{true}
 use mathlib.Core.List.{List}
 use Prim.Native.Nat.{ℕ, _*_, _≤_}
 use native.Mathlib.Omega.{arith}
@@ -14,32 +15,40 @@ use Rattle.model.specs.Demand.{OuterFalls, OuterRecovers}
 use Rattle.model.specs.Outer.{outerCounts}
 use Rattle.params.specs.Sizes.{sizes-fit}
 use Rattle.octets.specs.Positions.{kept, small-fits}
-use Rattle.octets.specs.Reads.{decode-outer-whole}
+use Rattle.octets.specs.Reads.{decode-read}
+use Rattle.theory.specs.Counters.{none-clear}
+use Rattle.theory.specs.InBlocks.{lengthOf, cDecodeForm, c-decode-outer-done}
 use Rattle.c_outer.proofs.decode_outer.Statement.{statement}
 use Rattle.c_outer.proofs.decode_outer.Tie as tie
 
--- the start, from where the buffers are chosen
+-- the start, from where the buffers are chosen, and the length of the blocks
 abbrev start : tie.After-is-small → tie.Start
-start c = c .before .before .before .before .before .before .before .before .before .before
+start c = c .before .before .before .before .before .before .before .before .before .before .before
 
--- what the contract says of the number r and what is left, x, with positions ps
-abbrev Holds : tie.Start → List ℕ → ℕ → Decoded (List ℕ) (List ℕ) → Type 0
-Holds s ps r x =
+-- what the contract says of the number r and what is left, x
+abbrev Holds : tie.Start → ℕ → Decoded (List ℕ) (List ℕ) → Type 0
+Holds s r x =
     let a = s .args in
-    let c = codeOf (a .q) (a .k) (a .b) ps in
+    let c = codeOf (a .q) (a .k) (a .b) (positionsOf (a .table .now)) in
     let lent = stateBy (a .result .now) (a .syndrome .now) (a .difference .now) in
     let n = outerCounts c (a .block) (a .thresholds .now) (a .page .now) in
     (record { number = r; left = x } ≡ cDecodeOuterOutcome c (a .block) (a .page .now) (a .thresholds .now) lent (a .margins .now) (a .counts .now))
     × ((r ≡ 0 → OuterFalls c (a .block) (a .thresholds .now) (a .page .now) n) × (r ≡ 0 → OuterRecovers c (a .block) (a .thresholds .now) (a .page .now) (x .state .result) n))
 
--- what holds with the positions that are read, xs, holds with those of the table
-whole : (s : tie.Start) (xs : List ℕ) → xs ≡ kept (positionsOf (s .args .table .now)) → (r : ℕ) (x : Decoded (List ℕ) (List ℕ))
-    → Holds s xs r x → Holds s (positionsOf (s .args .table .now)) r x
-whole s xs e r x h =
+-- it follows from what is left with the positions that are read, xs, in blocks of n
+whole : (s : tie.Start) (xs : List ℕ) → xs ≡ kept (positionsOf (s .args .table .now)) → (n : ℕ) → n ≡ lengthOf (s .args .block) → (r : ℕ) (x : Decoded (List ℕ) (List ℕ))
+    → (let a = s .args in
+    record { number = r; left = x }
+    ≡ cDecodeForm (codeOf (a .q) (a .k) (a .b) xs) n true (a .page .now) (a .thresholds .now) (stateBy (a .result .now) (a .syndrome .now) (a .difference .now)) (a .margins .now) (a .counts .now))
+    → Holds s r x
+whole s xs e n l r x h =
     let a = s .args in
+    let ps = positionsOf (a .table .now) in
+    let code = codeOf (a .q) (a .k) (a .b) ps in
     let lent = stateBy (a .result .now) (a .syndrome .now) (a .difference .now) in
-    let w = decode-outer-whole (a .q) (a .k) (a .b) xs (positionsOf (a .table .now)) e (a .block) (a .page .now) (a .thresholds .now) lent (a .margins .now) (a .counts .now) r x (h .0) in
-    (w .0, (λ z. subst (λ (ps : List ℕ). Holds s ps r x) (w .1 z) h .1 .0 z, λ z. subst (λ (ps : List ℕ). Holds s ps r x) (w .1 z) h .1 .1 z))
+    c-decode-outer-done code (a .block) (a .page .now) (a .thresholds .now) lent (a .margins .now) (a .counts .now) r x
+    (h ∙ decode-read (a .q) (a .k) (a .b) xs ps e n true (a .page .now) (a .thresholds .now) lent (a .margins .now) (a .counts .now)
+    ∙ ap (λ (m : ℕ). cDecodeForm code m true (a .page .now) (a .thresholds .now) lent (a .margins .now) (a .counts .now)) l)
 
 -- where the small buffers are chosen there is room in them
 small : (t : tie.Then1) → let a = start (t .before) .args in (length (a .table .now) ≤ 64) × (a .b * a .k ≤ 128)
@@ -47,9 +56,12 @@ small t =
     let f = small-fits (length (start (t .before) .args .table .now)) (t .before .before .data-count .result) _ (t .before .is-small .ensures) (t .if1 .taken) in
     (f .0, omega (arith, f .1, t .before .before .data-count .ensures))
 
+length-of-requires : tie.Need-length-of-requires
+length-of-requires c κs = search needs
+
 data-count-requires : tie.Need-data-count-requires
 data-count-requires c κs =
-    let a = c .before .before .before .before .before .before .before .before .args in
+    let a = c .before .before .before .before .before .before .before .before .before .args in
     omega (arith, sizes-fit (a .k) (a .b) (omega arith) (omega arith))
 
 is-small-requires : tie.Need-is-small-requires
@@ -64,16 +76,19 @@ read-positions-requires c κs = omega (arith, small (c .before) .0)
 array-share-prefix-few : tie.Need-array-share-prefix-few
 array-share-prefix-few c = search needs
 
-slice-aggregate-decode-outer-into : tie.Need-slice-aggregate-decode-outer-into
-slice-aggregate-decode-outer-into c = sym (length-take-le _ _ (omega arith))
+slice-aggregate-decode-into : tie.Need-slice-aggregate-decode-into
+slice-aggregate-decode-into c = sym (length-take-le _ _ (omega arith))
 
-slice-aggregate-decode-outer-into-2 : tie.Need-slice-aggregate-decode-outer-into-2
-slice-aggregate-decode-outer-into-2 c = search needs
+slice-aggregate-decode-into-2 : tie.Need-slice-aggregate-decode-into-2
+slice-aggregate-decode-into-2 c = search needs
 
-decode-outer-into-requires : tie.Need-decode-outer-into-requires
-decode-outer-into-requires c κs =
-    let t = c .before .before .before .before .before .before .before .before .before .before in
-    (omega arith, omega arith, (λ _. omega (arith, small t .1)))
+slice-aggregate-decode-into-3 : tie.Need-slice-aggregate-decode-into-3
+slice-aggregate-decode-into-3 c = search needs
+
+decode-into-requires : tie.Need-decode-into-requires
+decode-into-requires c κs =
+    let t = c .before .before .before .before .before .before .before .before .before .before .before in
+    (omega arith, omega arith, (λ _. omega (arith, small t .1)), (λ _. none-clear))
 
 same-length : tie.Need-same-length
 same-length c = search needs
@@ -92,10 +107,10 @@ same-length-5 c = search needs
 
 returns : tie.Need-returns
 returns c =
-    let d = c .before .before .before .before .before .before .before .before .before .before .before in
-    let r = d .before .before .before .before .before .before .before .before .before in
-    let e = d .decode-outer-into .ensures in
-    whole (start (r .before .before .before)) _ (r .read-positions .ensures .1) _ _ (e .0, (e .1 .0, e .1 .1))
+    let d = c .before .before .before .before .before .before .before .before .before .before .before .before in
+    let r = d .before .before .before .before .before .before .before .before .before .before in
+    let s = r .before .before .before in
+    whole (start s) _ (r .read-positions .ensures .1) _ (s .before .before .length-of .ensures) _ _ (d .decode-into .ensures .0)
 
 slice-aggregate-read-positions-2 : tie.Need-slice-aggregate-read-positions-2
 slice-aggregate-read-positions-2 c = search needs
@@ -106,14 +121,17 @@ read-positions-requires-2 c κs = search needs
 array-share-prefix-positions : tie.Need-array-share-prefix-positions
 array-share-prefix-positions c = search needs
 
-slice-aggregate-decode-outer-into-3 : tie.Need-slice-aggregate-decode-outer-into-3
-slice-aggregate-decode-outer-into-3 c = sym (length-take-le _ _ (omega arith))
+slice-aggregate-decode-into-4 : tie.Need-slice-aggregate-decode-into-4
+slice-aggregate-decode-into-4 c = sym (length-take-le _ _ (omega arith))
 
-slice-aggregate-decode-outer-into-4 : tie.Need-slice-aggregate-decode-outer-into-4
-slice-aggregate-decode-outer-into-4 c = search needs
+slice-aggregate-decode-into-5 : tie.Need-slice-aggregate-decode-into-5
+slice-aggregate-decode-into-5 c = search needs
 
-decode-outer-into-requires-2 : tie.Need-decode-outer-into-requires-2
-decode-outer-into-requires-2 c κs = search needs
+slice-aggregate-decode-into-6 : tie.Need-slice-aggregate-decode-into-6
+slice-aggregate-decode-into-6 c = search needs
+
+decode-into-requires-2 : tie.Need-decode-into-requires-2
+decode-into-requires-2 c κs = (omega arith, omega arith, (λ h. h), (λ _. none-clear))
 
 same-length-6 : tie.Need-same-length-6
 same-length-6 c = search needs
@@ -132,23 +150,25 @@ same-length-10 c = search needs
 
 returns-2 : tie.Need-returns-2
 returns-2 c =
-    let d = c .before .before .before .before .before .before .before .before .before .before .before in
-    let r = d .before .before .before .before .before .before .before .before .before in
-    let e = d .decode-outer-into2 .ensures in
-    whole (start (r .before .before .before)) _ (r .read-positions2 .ensures .1) _ _ (e .0, (e .1 .0, e .1 .1))
+    let d = c .before .before .before .before .before .before .before .before .before .before .before .before in
+    let r = d .before .before .before .before .before .before .before .before .before .before in
+    let s = r .before .before .before in
+    whole (start s) _ (r .read-positions2 .ensures .1) _ (s .before .before .length-of .ensures) _ _ (d .decode-into2 .ensures .0)
 
 pub decode-outer-spec : {M : Type 1} → statement M
 decode-outer-spec =
     tie.close
     (tie.spec
+    length-of-requires
     data-count-requires
     is-small-requires
     slice-aggregate-read-positions
     read-positions-requires
     array-share-prefix-few
-    slice-aggregate-decode-outer-into
-    slice-aggregate-decode-outer-into-2
-    decode-outer-into-requires
+    slice-aggregate-decode-into
+    slice-aggregate-decode-into-2
+    slice-aggregate-decode-into-3
+    decode-into-requires
     same-length
     same-length-2
     same-length-3
@@ -158,9 +178,10 @@ decode-outer-spec =
     slice-aggregate-read-positions-2
     read-positions-requires-2
     array-share-prefix-positions
-    slice-aggregate-decode-outer-into-3
-    slice-aggregate-decode-outer-into-4
-    decode-outer-into-requires-2
+    slice-aggregate-decode-into-4
+    slice-aggregate-decode-into-5
+    slice-aggregate-decode-into-6
+    decode-into-requires-2
     same-length-6
     same-length-7
     same-length-8

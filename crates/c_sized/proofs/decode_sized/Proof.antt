@@ -39,7 +39,7 @@ same-length-5 : tie.Need-same-length-5
 same-length-5 c = search needs
 
 returns : tie.Need-returns
-returns c = let e = c .before .before .before .before .before .before .before .before .before .before .before .before .decode-into .ensures in (e .0, (e .1 .0, e .1 .1 .0))
+returns c = c .before .before .before .before .before .before .before .before .before .before .before .before .decode-into .ensures .0
 
 slice-aggregate-decode-into-3 : tie.Need-slice-aggregate-decode-into-3
 slice-aggregate-decode-into-3 c = search needs
@@ -66,7 +66,7 @@ same-length-10 : tie.Need-same-length-10
 same-length-10 c = search needs
 
 returns-2 : tie.Need-returns-2
-returns-2 c = let e = c .before .before .before .before .before .before .before .before .before .before .before .before .decode-into2 .ensures in (e .0, (e .1 .0, e .1 .1 .0))
+returns-2 c = c .before .before .before .before .before .before .before .before .before .before .before .before .decode-into2 .ensures .0
 
 pub decode-sized-spec : {M : Type 1} → statement M
 decode-sized-spec =

@@ -1,14 +1,18 @@
--- `decode`: no counters are lent; the rest is `decode_sized`'s.
+-- `decode`: no counters are lent; it is `decode_blocks` in blocks of 1.
 use borrow.Author.Needs.{needs}
+use mathlib.Core.Bool.{true}
+use Rattle.model.specs.Code.{codeOf}
+use Rattle.model.specs.Decoder.{stateBy}
 use Rattle.theory.specs.Counters.{none-clear}
+use Rattle.theory.specs.InBlocks.{decode-done}
 use Rattle.decoder.proofs.decode.Statement.{statement}
 use Rattle.decoder.proofs.decode.Tie as tie
 
-slice-aggregate-decode-sized : tie.Need-slice-aggregate-decode-sized
-slice-aggregate-decode-sized c = search needs
+slice-aggregate-decode-blocks : tie.Need-slice-aggregate-decode-blocks
+slice-aggregate-decode-blocks c = search needs
 
-decode-sized-requires : tie.Need-decode-sized-requires
-decode-sized-requires c κs = (λ e. none-clear)
+decode-blocks-requires : tie.Need-decode-blocks-requires
+decode-blocks-requires c κs = (λ e. none-clear)
 
 same-length : tie.Need-same-length
 same-length c = search needs
@@ -23,14 +27,18 @@ same-length-4 : tie.Need-same-length-4
 same-length-4 c = search needs
 
 returns : tie.Need-returns
-returns c = let e = c .before .before .before .before .before .before .before .before .decode-sized .ensures in (e .0, (e .1 .0, e .1 .1 .0))
+returns c =
+    let d = c .before .before .before .before .before .before .before .before in
+    let a = d .before .before .before .before .before .before .before .before .before .before .before .before .args in
+    decode-done (codeOf (a .q) (a .k) (a .b) (a .positions .now)) true (a .page .now) (a .thresholds .now) (stateBy (a .result .now) (a .syndrome .now) (a .difference .now)) (a .margins .now) _ _
+    (d .decode-blocks .ensures .0)
 
 pub decode-spec : {M : Type 1} → statement M
 decode-spec =
     tie.close
     (tie.spec
-    slice-aggregate-decode-sized
-    decode-sized-requires
+    slice-aggregate-decode-blocks
+    decode-blocks-requires
     same-length
     same-length-2
     same-length-3

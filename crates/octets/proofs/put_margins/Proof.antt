@@ -15,12 +15,9 @@ use Rattle.margins.specs.Margins.{margins-firm}
 use Rattle.octets.proofs.put_margins.Statement.{statement}
 use Rattle.octets.proofs.put_margins.Tie as tie
 
--- the start, from where the data symbols are counted
-abbrev start : tie.After-data-count → tie.Start
-start c = c .before .before .before .before .before .before
-
-data-count-requires : tie.Need-data-count-requires
-data-count-requires c κs = omega (arith, c .before .before .before .before .before .pre .0 .checks .table .sizes .data-high)
+-- the start, from where the distance is tested
+abbrev start : tie.After-slice-known → tie.Start
+start c = c .before .before .before .before .before
 
 checks-each-requires : tie.Need-checks-each-requires
 checks-each-requires c κs = start (c .before) .pre .0 .checks .table .sizes .b-low
@@ -33,22 +30,18 @@ cast-write-firm c = omega (arith, c .checks-each .ensures, start (c .before .bef
 
 write-firm-requires : tie.Need-write-firm-requires
 write-firm-requires c κs =
-    let n = c .before .before .before in
-    let p = start n .pre in
-    (omega (arith, n .data-count .ensures, p .0 .checks .table .sizes .data-high), p .1 ∙ ap (λ (m : ℕ). 4 * m) (sym (n .data-count .ensures)))
+    let p = start (c .before .before .before) .pre in
+    (omega (arith, p .0 .len-difference, p .0 .checks .table .sizes .data-high), p .1 ∙ ap (λ (m : ℕ). 4 * m) (sym (p .0 .len-difference)))
 
 slice-aggregate-write-margins : tie.Need-slice-aggregate-write-margins
-slice-aggregate-write-margins c =
-    let n = c .before .before in
-    sym (length-take-le _ _ (omega (arith, n .data-count .ensures, start n .pre .0 .room)))
+slice-aggregate-write-margins c = let l = start (c .before .before) .pre .0 in sym (length-take-le _ _ (omega (arith, l .len-difference, l .room)))
 
 write-margins-requires : tie.Need-write-margins-requires
 write-margins-requires c κs =
     let e = c .before .before in
-    let n = e .before in
-    let b = start n in
+    let b = start (e .before) in
     let l = b .pre .0 in
-    (l .checks, ap (λ (m : ℕ). take m (b .args .zeros .now)) (n .data-count .ensures) ∙ l .counted (e .if1 .left), l .len-difference, b .pre .1)
+    (l .checks, ap (λ (m : ℕ). take m (b .args .zeros .now)) (l .len-difference) ∙ l .counted (e .if1 .left), l .len-difference, b .pre .1)
 
 same-length : tie.Need-same-length
 same-length c = search needs
@@ -59,10 +52,9 @@ returns c r =
     let w = c .before .before in
     let k = w .before .before in
     let t = k .before in
-    let n = t .before in
-    let b = start n in
+    let b = start (t .before) in
     let a = b .args in
-    w .write-firm .ensures ∙ ap (λ (m : ℕ). marginBytes (map (λ j. pos (k .checks-each .result + 1) -ℤ pos 0) (tabulate m (λ j. j)))) (n .data-count .ensures)
+    w .write-firm .ensures ∙ ap (λ (m : ℕ). marginBytes (map (λ j. pos (k .checks-each .result + 1) -ℤ pos 0) (tabulate m (λ j. j)))) (b .pre .0 .len-difference)
     ∙ ap marginBytes (margins-firm (codeBy (a .code) (a .positions .now)) (b .pre .0 .checks .table) (stateBy r (a .s .now) (a .d .now)) _ (ap (λ (m : ℕ). m + 1) (k .checks-each .ensures))
     (sym (b .pre .0 .weighed) ∙ t .if1 .taken))
 
@@ -76,7 +68,6 @@ pub put-margins-spec : {M : Type 1} → statement M
 put-margins-spec =
     tie.close
     (tie.spec
-    data-count-requires
     checks-each-requires
     add-write-firm
     cast-write-firm

@@ -5,27 +5,29 @@ use native.Mathlib.Omega.{arith}
 use Rattle.model.specs.Code.{Code}
 use Rattle.model.specs.Decoder.{State, stateBy, stateWeight}
 use Rattle.params.specs.Codes.{codeBy}
-use Rattle.theory.specs.Answers.{Opens}
-use Rattle.theory.specs.Counters.{none-clear}
+use Rattle.theory.specs.Answers.{Opens, BlockFits}
 use Rattle.outer_steps.specs.Blocks.{Stepped}
 use Rattle.visits.specs.Progress.{Progress, progress, Ready, at-table}
 use Rattle.zeros.specs.Counts.{zeroCounts}
-use Rattle.outer_correction.specs.Corrected.{passed-ready, clean-corrected, stepped-ready, stepped-few, left-corrected, steps-corrected}
+use Rattle.outer_correction.specs.Corrected.{passed-ready, one-corrected, clean-corrected, stepped-ready, stepped-few, left-corrected, steps-corrected}
 use Rattle.outer_correction.proofs.correct_page.Statement.{statement}
 use Rattle.outer_correction.proofs.correct_page.Tie as tie
 
 -- the places that later ones look back to: the start, the passes, the steps
 abbrev start : tie.After-decode-page → tie.Start
-start c = c .before .before .before .before .before .before .before .before .before .before .before .before .before
+start c = c .before .before .before .before .before .before .before .before .before .before .before .before .before .before
 
 abbrev passes : tie.After-struct-known → tie.After-decode-page
-passes c = c .before .before .before .before .before .before .before .before .before .before
+passes c = c .before .before .before .before .before .before .before .before .before .before .before
+
+abbrev some : tie.After-outer-steps → tie.Then2
+some c = c .before .before .before .before
 
 abbrev before-steps : tie.After-outer-steps → tie.After-decode-page
-before-steps c = passes (c .before .before .before .before .before)
+before-steps c = passes (some c .before .before)
 
-abbrev steps : tie.Else2 → tie.After-outer-steps
-steps c = c .before .before .before .before .before .before .before
+abbrev steps : tie.After-slice-known13 → tie.After-outer-steps
+steps c = c .before .before .before .before .before .before
 
 abbrev codeAt : tie.Start → Code
 codeAt b = codeBy (b .args .code) (b .args .positions .now)
@@ -40,11 +42,44 @@ passed c = progress (c .decode-page .last .1 .1 .1 .1 .1 .1 .0) (c .decode-page 
 abbrev stepped : tie.After-outer-steps → Stepped
 stepped c = record { state = stateBy (c .outer-steps .last .1 .1 .1 .0) (c .outer-steps .last .1 .1 .1 .1 .0) (c .outer-steps .last .1 .1 .1 .1 .1 .0); steps = c .outer-steps .result }
 
-slice-aggregate-decode-page : tie.Need-slice-aggregate-decode-page
-slice-aggregate-decode-page c = search needs
+-- where steps are made, the blocks fit
+fits : (x : tie.After-outer-steps) → let b = start (before-steps x) in BlockFits (codeAt b) (b .args .block)
+fits x = start (before-steps x) .pre .1 (some x .if2 .taken)
 
 decode-page-requires : tie.Need-decode-page-requires
-decode-page-requires c κs = let p = c .before .before .before .before .before .before .before .before .before .before .before .before .pre in (p .0, p .2, none-clear)
+decode-page-requires c κs = let p = c .before .before .before .before .before .before .before .before .before .before .before .before .before .pre in (p .0, p .2, p .3)
+
+outer-steps-requires : tie.Need-outer-steps-requires
+outer-steps-requires c κs =
+    let two = c .before .before .before in
+    let d = passes (two .before .before) in
+    let b = start d in
+    (passed-ready (codeAt b) (b .args .block) _ _ _ (opens b) (passed d) (d .decode-page .ensures .0), b .pre .1 (two .if2 .taken))
+
+ready : (x : tie.After-outer-steps) → Ready (codeAt (start (before-steps x))) (stepped x .state)
+ready x =
+    let d = before-steps x in
+    let b = start d in
+    stepped-ready (codeAt b) _ _ _ _ (opens b) (passed d) (d .decode-page .ensures .0) (fits x) (stepped x) (x .outer-steps .ensures)
+
+count-zeros-requires : tie.Need-count-zeros-requires
+count-zeros-requires c κs =
+    let x = steps (c .before .before .before) in
+    let b = start (before-steps x) in
+    (at-table _ _ (ready x), omega (arith, some x .before .before .before .before .before .before .before .before .before .before .before .before .zeros .given, b .pre .2))
+
+add-t37 : tie.Need-add-t37
+add-t37 c =
+    let x = steps (c .before .before .before .before .before .before .before) in
+    let d = before-steps x in
+    let b = start d in
+    record { fits = omega (arith, stepped-few (codeAt b) (b .args .block) _ _ _ (opens b) (passed d) (d .decode-page .ensures .0) (fits x) (stepped x) (x .outer-steps .ensures)) }
+
+state-weight-requires : tie.Need-state-weight-requires
+state-weight-requires c κs =
+    let r = ready (steps (c .before .before .before .before .before .before .before .before .before)) in
+    let z = r .usable .table .sizes in
+    (omega (arith, r .sized .len-difference, z .data-high), omega (arith, r .sized .len-syndrome, z .k-high))
 
 same-length : tie.Need-same-length
 same-length c = search needs
@@ -58,20 +93,20 @@ same-length-3 c = search needs
 same-length-4 : tie.Need-same-length-4
 same-length-4 c = search needs
 
-returns : tie.Need-returns
-returns c =
-    let d = passes (c .before) in
-    let b = start d in
-    (clean-corrected (codeAt b) _ _ _ _ (opens b) (b .pre .1) (passed d) (d .decode-page .ensures .0) (c .if1 .taken), d .decode-page .ensures .1 .0)
-
-outer-steps-requires : tie.Need-outer-steps-requires
-outer-steps-requires c κs =
-    let d = passes (c .before .before .before .before) in
-    let b = start d in
-    (passed-ready (codeAt b) _ _ _ _ (opens b) (b .pre .1) (passed d) (d .decode-page .ensures .0), b .pre .1)
-
 same-length-5 : tie.Need-same-length-5
 same-length-5 c = search needs
+
+-- some steps are made
+returns : tie.Need-returns
+unfolding stateWeight
+returns c =
+    let k = c .before .before .before .before .before .before in
+    let x = steps (k .before .before .before .before) in
+    let d = before-steps x in
+    let b = start d in (
+      steps-corrected (codeAt b) _ _ _ _ (opens b) (passed d) (d .decode-page .ensures .0) (fits x) (stepped x) (x .outer-steps .ensures) _ (c .state-weight .ensures),
+      (λ n. k .count-zeros .ensures, d .decode-page .ensures .1 .1),
+    )
 
 same-length-6 : tie.Need-same-length-6
 same-length-6 c = search needs
@@ -82,45 +117,20 @@ same-length-7 c = search needs
 same-length-8 : tie.Need-same-length-8
 same-length-8 c = search needs
 
-returns-2 : tie.Need-returns-2
-returns-2 c =
-    let x = c .before .before .before .before .before .before .before in
-    let d = before-steps x in
-    let b = start d in
-    let l = left-corrected (codeAt b) _ _ _ _ (opens b) (b .pre .1) (passed d) (d .decode-page .ensures .0) (stepped x) (x .outer-steps .ensures) (c .if2 .taken) in
-    (l .1, λ n. d .decode-page .ensures .1 .0 n ∙ ap (λ (st : State). zeroCounts (codeAt b) (st .syndrome)) (l .0))
-
-ready : (x : tie.After-outer-steps) → Ready (codeAt (start (before-steps x))) (stepped x .state)
-ready x =
-    let d = before-steps x in
-    let b = start d in
-    stepped-ready (codeAt b) _ _ _ _ (opens b) (b .pre .1) (passed d) (d .decode-page .ensures .0) (stepped x) (x .outer-steps .ensures)
-
-count-zeros-requires : tie.Need-count-zeros-requires
-count-zeros-requires c κs =
-    let x = steps (c .before .before) in
-    let b = start (before-steps x) in
-    (at-table _ _ (ready x), omega (arith, x .before .before .before .before .before .before .before .before .before .before .before .before .before .before .zeros .given, b .pre .2))
-
-add-t35 : tie.Need-add-t35
-add-t35 c =
-    let x = steps (c .before .before .before .before .before .before) in
-    let d = before-steps x in
-    let b = start d in
-    record { fits = omega (arith, stepped-few (codeAt b) (b .args .block) _ _ _ (opens b) (b .pre .1) (passed d) (d .decode-page .ensures .0) (stepped x) (x .outer-steps .ensures)) }
-
-state-weight-requires : tie.Need-state-weight-requires
-state-weight-requires c κs =
-    let x = steps (c .before .before .before .before .before .before .before .before) in
-    let r = ready x in
-    let z = r .usable .table .sizes in
-    (omega (arith, r .sized .len-difference, z .data-high), omega (arith, r .sized .len-syndrome, z .k-high))
-
 same-length-9 : tie.Need-same-length-9
 same-length-9 c = search needs
 
 same-length-10 : tie.Need-same-length-10
 same-length-10 c = search needs
+
+-- none is
+returns-2 : tie.Need-returns-2
+returns-2 c =
+    let x = steps (c .before) in
+    let d = before-steps x in
+    let b = start d in
+    let l = left-corrected (codeAt b) _ _ _ _ (opens b) (passed d) (d .decode-page .ensures .0) (fits x) (stepped x) (x .outer-steps .ensures) (c .if3 .left) in
+    (l .1, (λ n. d .decode-page .ensures .1 .0 n ∙ ap (λ (st : State). zeroCounts (codeAt b) (st .syndrome)) (l .0), d .decode-page .ensures .1 .1))
 
 same-length-11 : tie.Need-same-length-11
 same-length-11 c = search needs
@@ -128,37 +138,74 @@ same-length-11 c = search needs
 same-length-12 : tie.Need-same-length-12
 same-length-12 c = search needs
 
+same-length-13 : tie.Need-same-length-13
+same-length-13 c = search needs
+
+same-length-14 : tie.Need-same-length-14
+same-length-14 c = search needs
+
+same-length-15 : tie.Need-same-length-15
+same-length-15 c = search needs
+
+-- blocks of 1
 returns-3 : tie.Need-returns-3
-unfolding stateWeight
 returns-3 c =
-    let k = c .before .before .before .before .before .before in
-    let x = steps (k .before .before .before) in
-    let d = before-steps x in
+    let d = passes (c .before .before) in
     let b = start d in
-    (steps-corrected (codeAt b) _ _ _ _ (opens b) (b .pre .1) (passed d) (d .decode-page .ensures .0) (stepped x) (x .outer-steps .ensures) _ (c .state-weight .ensures), λ n. k .count-zeros .ensures)
+    (one-corrected (codeAt b) _ _ _ _ (opens b) (passed d) (d .decode-page .ensures .0) (c .if2 .left), d .decode-page .ensures .1)
+
+same-length-16 : tie.Need-same-length-16
+same-length-16 c = search needs
+
+same-length-17 : tie.Need-same-length-17
+same-length-17 c = search needs
+
+same-length-18 : tie.Need-same-length-18
+same-length-18 c = search needs
+
+same-length-19 : tie.Need-same-length-19
+same-length-19 c = search needs
+
+same-length-20 : tie.Need-same-length-20
+same-length-20 c = search needs
+
+-- no distance
+returns-4 : tie.Need-returns-4
+returns-4 c =
+    let d = passes (c .before) in
+    let b = start d in
+    (clean-corrected (codeAt b) _ _ _ _ (opens b) (passed d) (d .decode-page .ensures .0) (b .pre .1) (c .if1 .left), d .decode-page .ensures .1)
 
 pub correct-page-spec : {M : Type 1} → statement M
 correct-page-spec =
     tie.close
     (tie.spec
-    slice-aggregate-decode-page
     decode-page-requires
+    outer-steps-requires
+    count-zeros-requires
+    add-t37
+    state-weight-requires
     same-length
     same-length-2
     same-length-3
     same-length-4
-    returns
-    outer-steps-requires
     same-length-5
+    returns
     same-length-6
     same-length-7
     same-length-8
-    returns-2
-    count-zeros-requires
-    add-t35
-    state-weight-requires
     same-length-9
     same-length-10
+    returns-2
     same-length-11
     same-length-12
-    returns-3)
+    same-length-13
+    same-length-14
+    same-length-15
+    returns-3
+    same-length-16
+    same-length-17
+    same-length-18
+    same-length-19
+    same-length-20
+    returns-4)

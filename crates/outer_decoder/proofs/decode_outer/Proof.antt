@@ -1,20 +1,23 @@
--- `decode_outer`: either buffer for the zeros is large enough; the rest is `decode_outer_into`'s.
+-- `decode_outer`: it is `decode_blocks` in blocks of the length that the caller's stands for.
 use borrow.Author.Needs.{needs}
-use native.Mathlib.Omega.{arith}
-use Rattle.params.specs.Sizes.{sizes-fit}
+use mathlib.Core.Path.{_∙_, ap}
+use mathlib.Core.Bool.{true}
+use Prim.Native.Nat.{ℕ}
+use Rattle.model.specs.Code.{codeOf}
+use Rattle.model.specs.Decoder.{stateBy}
+use Rattle.theory.specs.Counters.{none-clear}
+use Rattle.theory.specs.InBlocks.{decodeForm, decode-outer-done}
 use Rattle.outer_decoder.proofs.decode_outer.Statement.{statement}
 use Rattle.outer_decoder.proofs.decode_outer.Tie as tie
 
-data-count-requires : tie.Need-data-count-requires
-data-count-requires c κs =
-    let a = c .before .before .before .before .before .before .args in
-    omega (arith, sizes-fit (a .k) (a .b) (omega arith) (omega arith))
+length-of-requires : tie.Need-length-of-requires
+length-of-requires c κs = search needs
 
-slice-aggregate-decode-outer-into : tie.Need-slice-aggregate-decode-outer-into
-slice-aggregate-decode-outer-into c = search needs
+slice-aggregate-decode-blocks : tie.Need-slice-aggregate-decode-blocks
+slice-aggregate-decode-blocks c = search needs
 
-decode-outer-into-requires : tie.Need-decode-outer-into-requires
-decode-outer-into-requires c κs = search needs
+decode-blocks-requires : tie.Need-decode-blocks-requires
+decode-blocks-requires c κs = (λ e. none-clear)
 
 same-length : tie.Need-same-length
 same-length c = search needs
@@ -29,45 +32,24 @@ same-length-4 : tie.Need-same-length-4
 same-length-4 c = search needs
 
 returns : tie.Need-returns
-returns c = search needs
-
-slice-aggregate-decode-outer-into-2 : tie.Need-slice-aggregate-decode-outer-into-2
-slice-aggregate-decode-outer-into-2 c = search needs
-
-decode-outer-into-requires-2 : tie.Need-decode-outer-into-requires-2
-decode-outer-into-requires-2 c κs = search needs
-
-same-length-5 : tie.Need-same-length-5
-same-length-5 c = search needs
-
-same-length-6 : tie.Need-same-length-6
-same-length-6 c = search needs
-
-same-length-7 : tie.Need-same-length-7
-same-length-7 c = search needs
-
-same-length-8 : tie.Need-same-length-8
-same-length-8 c = search needs
-
-returns-2 : tie.Need-returns-2
-returns-2 c = search needs
+returns c =
+    let d = c .before .before .before .before .before .before .before .before in
+    let n = d .before .before .before .before .before .before in
+    let a = n .before .before .before .before .before .before .before .args in
+    let code = codeOf (a .q) (a .k) (a .b) (a .positions .now) in
+    let lent = stateBy (a .result .now) (a .syndrome .now) (a .difference .now) in
+    decode-outer-done code (a .block) (a .page .now) (a .thresholds .now) lent (a .margins .now) _ _
+    (d .decode-blocks .ensures .0 ∙ ap (λ (m : ℕ). decodeForm code m true (a .page .now) (a .thresholds .now) lent (a .margins .now)) (n .length-of .ensures))
 
 pub decode-outer-spec : {M : Type 1} → statement M
 decode-outer-spec =
     tie.close
     (tie.spec
-    data-count-requires
-    slice-aggregate-decode-outer-into
-    decode-outer-into-requires
+    length-of-requires
+    slice-aggregate-decode-blocks
+    decode-blocks-requires
     same-length
     same-length-2
     same-length-3
     same-length-4
-    returns
-    slice-aggregate-decode-outer-into-2
-    decode-outer-into-requires-2
-    same-length-5
-    same-length-6
-    same-length-7
-    same-length-8
-    returns-2)
+    returns)

@@ -6,7 +6,8 @@ use mathlib.Core.List.{List, _++_}
 use Prim.Native.Nat.{ℕ, _+_, _*_, _≤_}
 use native.Mathlib.Omega.{arith}
 use lib.Dec.{eqb}
-use lib.ListN.{length}
+use lib.ListN.{length, drop}
+use lib.Seq.{length-take-le}
 use Rattle.model.specs.Calls.{firstThatApplies, pageTests, blockTest, encodeFits, encodeAnswer, encodeOuterAnswer, encodeOuterOutcome}
 use Rattle.model.specs.Code.{Code, codeOf, dataCount, pageLength}
 use Rattle.model.specs.Demand.{EncodesOuter}
@@ -16,6 +17,7 @@ use Rattle.theory.specs.Outcomes.{left-as-lent, left-as-done}
 use Rattle.theory.specs.Statements.{outer-encodes}
 use Rattle.theory.specs.Steps.{SymbolsBelow}
 use Rattle.params.specs.Sizes.{sizes-fit}
+use Rattle.codeword.specs.Checks.{behind-length, page-written}
 use Rattle.outer_page.proofs.encode_outer.Statement.{statement}
 use Rattle.outer_page.proofs.encode_outer.Tie as tie
 
@@ -86,14 +88,61 @@ works : (c : tie.Else1)
     × (length (b .args .page .now) ≡ pageLength (code b))
 works c = let b = start (c .before) in taken (code b) (b .args .block) (b .args .«data» .now) (length (b .args .page .now)) (done c)
 
-write-page-requires : tie.Need-write-page-requires
-write-page-requires c κs = let w = works (c .before) in (w .1, w .3, w .4)
+-- the data fits into the page
+room : (c : tie.Else1) → let b = start (c .before) in length (b .args .«data» .now) ≤ length (b .args .page .now)
+room c = omega (arith, works c .3 .len, works c .4)
+
+slice-relend-prefix-copy-into : tie.Need-slice-relend-prefix-copy-into
+slice-relend-prefix-copy-into c = room c
+
+slice-aggregate-copy-into : tie.Need-slice-aggregate-copy-into
+slice-aggregate-copy-into c = sym (length-take-le _ _ (room (c .before)))
+
+copy-into-requires : tie.Need-copy-into-requires
+copy-into-requires c κs = length-take-le _ _ (room (c .before))
+
+sub-checks : tie.Need-sub-checks
+sub-checks c = omega (arith, c .before .page .given, room (c .before .before .before .before))
+
+part-checks-start : tie.Need-part-checks-start
+part-checks-start c = omega (arith, c .before .page .given, room (c .before .before .before .before))
+
+part-checks-end : tie.Need-part-checks-end
+part-checks-end c = search needs
+
+first-row-requires : tie.Need-first-row-requires
+first-row-requires c κs =
+    let copied = c .before .before .before .before in
+    let left = copied .before .before in
+    let a = start (left .before) .args in
+    let w = works left in (
+      w .1,
+      w .3,
+      behind-length (copied .copy-into .last .0 ++ drop (length (a .«data» .now)) (a .page .now)) (length (a .«data» .now)) (a .k)
+          (omega (arith, c .before .before .before .page .given, w .3 .len, w .4)),
+    )
+
+add-branches-requires : tie.Need-add-branches-requires
+add-branches-requires c κs =
+    let r = c .before .before in
+    let w = works (r .before .before .before .before .before .before .before) in
+    (w .1, w .3, r .first-row .ensures .1)
 
 write-outer-checks-requires : tie.Need-write-outer-checks-requires
 write-outer-checks-requires c κs =
-    let p = c .before .before .before in
-    let w = works (p .before .before) in
-    (w .0, w .1 .q-high, w .2, w .3, p .write-page .ensures)
+    let added = c .before .before .before in
+    let first = added .before .before .before in
+    let copied = first .before .before .before .before .before in
+    let left = copied .before .before in
+    let b = start (left .before) in
+    let u = b .args .«data» .now in
+    let w = works left in (
+      w .0,
+      w .1 .q-high,
+      w .2,
+      w .3,
+      page-written (code b) (w .1 .table) u (copied .copy-into .last .0) (drop (length u) (b .args .page .now)) _ _ (w .3 .len) (copied .copy-into .ensures) (first .first-row .ensures .0) (added .add-branches .ensures),
+    )
 
 same-length : tie.Need-same-length
 same-length c = search needs
@@ -102,7 +151,7 @@ returns-2 : tie.Need-returns-2
 unfolding encodeOuterOutcome
 returns-2 c =
     let w = c .before .before in
-    let left = w .before .before .before .before .before .before in
+    let left = w .before .before .before .before .before .before .before .before .before .before .before .before .before .before in
     let b = start (left .before) in
     let u = b .args .«data» .now in (
       left-as-done _ _ _ _ (sym (done left)) (w .write-outer-checks .ensures),
@@ -118,7 +167,14 @@ encode-outer-spec =
     two-fit-requires
     encode-outer-answer-requires
     returns
-    write-page-requires
+    slice-relend-prefix-copy-into
+    slice-aggregate-copy-into
+    copy-into-requires
+    sub-checks
+    part-checks-start
+    part-checks-end
+    first-row-requires
+    add-branches-requires
     write-outer-checks-requires
     same-length
     returns-2)

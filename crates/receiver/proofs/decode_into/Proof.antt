@@ -1,4 +1,4 @@
--- `decode_into`: what `decode_with` leaves, with the margins filled from it where it is done, is decode's outcome.
+-- `decode_into`: what `decode_with` leaves, with the margins filled from it where it is done, is the outcome of the Rattle form.
 use borrow.Author.Needs.{needs}
 use mathlib.Core.Path.{_≡_, sym, _∙_, ap}
 use mathlib.Core.Bool.{Bool, _&&_}
@@ -6,12 +6,13 @@ use Prim.Native.Nat.{ℕ, _*_}
 use native.Mathlib.Omega.{arith}
 use lib.Dec.{eqb}
 use lib.ListN.{length}
-use Rattle.model.specs.Calls.{decodeFits, decodeAnswer, decodeOutcome}
+use Rattle.model.specs.Calls.{decodeFits}
 use Rattle.model.specs.Code.{Code}
 use Rattle.model.specs.Decoder.{State, stateBy, marginsOf}
 use Rattle.params.specs.Codes.{codeBy}
 use Rattle.params.specs.Sizes.{sizes-fit}
 use Rattle.theory.specs.Answers.{and-true, eqb-true, decode-opens}
+use Rattle.theory.specs.InBlocks.{blocksAnswer, blocks-taken, formOutcome, decodeForm}
 use Rattle.theory.specs.Outcomes.{left-as-lent, left-as-done, outcome-number, outcome-lent, outcome-done}
 use Rattle.receiver.specs.Received.{Ran, ranOutcome}
 use Rattle.receiver.proofs.decode_into.Statement.{statement}
@@ -29,7 +30,8 @@ decode-with-requires : tie.Need-decode-with-requires
 decode-with-requires c κs =
     let t = c .before .before .before .before .before in
     let p = t .before .before .before .before .before .before .before .before .before .before .pre in
-    (p .0, p .1, p .2, λ e. p .3 (and-true _ _ (sym (t .also .ensures) ∙ e) .0))
+    let n = t .before .data-count .ensures in
+    (n, λ h. omega (arith, n, p .2 (omega (arith, n, h))), λ e. p .3 (and-true _ _ (sym (t .also .ensures) ∙ e) .0))
 
 -- the places that later ones look back to: the start and the decode
 abbrev start : tie.After-decode-with → tie.Start
@@ -38,20 +40,20 @@ start c = c .before .before .before .before .before .before .before .before .bef
 abbrev decode : tie.After-struct-known → tie.After-decode-with
 decode c = c .before .before .before .before .before .before .before .before .before .before .before
 
--- the number returned is decode's, with the margins among the lent buffers
+-- the number returned is that of decode in these blocks, with the margins among the lent buffers
 number : (p : tie.After-decode-with)
     → let a = start p .args in
     let code = codeBy (a .code) (a .positions .now) in
     let lent = stateBy (a .result .now) (a .syndrome .now) (a .difference .now) in
     p .decode-with .result .number
-    ≡ decodeAnswer code ((a .others && eqb (length (a .margins .now)) (a .code .b * a .code .k)) && decodeFits code (a .page .now) lent) (a .page .now) (a .thresholds .now)
+    ≡ blocksAnswer code (a .block) ((a .others && eqb (length (a .margins .now)) (a .code .b * a .code .k)) && decodeFits code (a .page .now) lent) (a .page .now) (a .thresholds .now)
 unfolding ranOutcome
 number p =
     let a = start p .args in
     let code : Code = codeBy (a .code) (a .positions .now) in
     let lent : State = stateBy (a .result .now) (a .syndrome .now) (a .difference .now) in
     outcome-number _ _ _ _ _ (p .decode-with .ensures .0)
-    ∙ ap (λ (b : Bool). decodeAnswer code (b && decodeFits code (a .page .now) lent) (a .page .now) (a .thresholds .now))
+    ∙ ap (λ (b : Bool). blocksAnswer code (a .block) (b && decodeFits code (a .page .now) lent) (a .page .now) (a .thresholds .now))
     (p .before .before .before .before .before .before .also .ensures ∙ ap (λ (n : ℕ). a .others && eqb (length (a .margins .now)) n) (p .before .before .before .before .before .before .before .data-count .ensures))
 
 same-length : tie.Need-same-length
@@ -67,14 +69,14 @@ same-length-4 : tie.Need-same-length-4
 same-length-4 c = search needs
 
 returns : tie.Need-returns
-unfolding ranOutcome decodeOutcome
+unfolding ranOutcome decodeForm formOutcome
 returns c =
     let p = decode (c .before) in
     let a = start p .args in
     let same = outcome-lent _ _ _ _ _ (p .decode-with .ensures .0) (c .if1 .taken) in (
       ap (λ (x : Ran). record { number = p .decode-with .result .number; left = record { state = x .state; margins = a .margins .now; counts = x .counts } }) same
           ∙ left-as-lent _ _ _ _ (number p) (c .if1 .taken),
-      (λ z. absurd (c .if1 .taken z), (λ z. absurd (c .if1 .taken z), p .decode-with .ensures .1 .1 .1 .1)),
+      p .decode-with .ensures .1 .1,
     )
 
 fill-requires : tie.Need-fill-requires
@@ -86,7 +88,8 @@ fill-requires c κs =
       p .decode-with .ensures .1 .0 (done .if1 .left),
       eqb-true (length (a .margins .now)) (a .code .b * a .code .k)
           (and-true (a .others) _
-          (decode-opens _ (a .others && eqb (length (a .margins .now)) (a .code .b * a .code .k)) (a .page .now) (a .thresholds .now) lent (sym (number p) ∙ done .if1 .left) .0) .1),
+          (decode-opens _ (a .others && eqb (length (a .margins .now)) (a .code .b * a .code .k)) (a .page .now) (a .thresholds .now) lent
+          (blocks-taken _ _ (a .page .now) (a .thresholds .now) (a .block) (sym (number p) ∙ done .if1 .left) .0) .0) .1),
     )
 
 same-length-5 : tie.Need-same-length-5
@@ -111,7 +114,7 @@ same-length-11 : tie.Need-same-length-11
 same-length-11 c = search needs
 
 returns-2 : tie.Need-returns-2
-unfolding ranOutcome decodeOutcome
+unfolding ranOutcome decodeForm formOutcome
 returns-2 c =
     let f = c .before in
     let done = f .before .before .before .before .before .before in
@@ -122,7 +125,7 @@ returns-2 c =
     let made = outcome-done _ _ _ _ _ (p .decode-with .ensures .0) z in (
       left-as-done _ _ _ _ (sym z ∙ number p)
           (λ i. record { state = made i .state; margins = (f .fill .ensures _ ∙ ap (λ (x : Ran). marginsOf code (x .state)) made) i; counts = made i .counts }),
-      (λ _. p .decode-with .ensures .1 .1 .0 z, (λ _. p .decode-with .ensures .1 .1 .1 .0 z, p .decode-with .ensures .1 .1 .1 .1)),
+      p .decode-with .ensures .1 .1,
     )
 
 pub decode-into-spec : {M : Type 1} → statement M

@@ -1,8 +1,8 @@
--- `decode_with`: the tests give the number; refused, all is as it was lent; done, the page is decoded, and demand 3 holds of what was taken.
+-- `decode_with`: the tests give the number; refused, all is as it was lent; done, the page is corrected.
 use borrow.Author.Needs.{needs}
 use mathlib.Core.Path.{_≡_, refl, sym, _∙_, ap}
 use mathlib.Core.Bool.{Bool, _&&_}
-use Prim.Native.Nat.{ℕ, _+_, _*_, _≤_}
+use Prim.Native.Nat.{ℕ, _+_, _≤_}
 use lib.Dec.{eqb}
 use lib.ListN.{length}
 use lib.Seq.{length-take-le, take-at}
@@ -10,44 +10,37 @@ use native.Mathlib.Omega.{arith}
 use Rattle.model.specs.Calls.{decodeFits, decodeAnswer}
 use Rattle.model.specs.Decoder.{stateBy}
 use Rattle.params.specs.Codes.{codeBy}
-use Rattle.params.specs.Sizes.{sizes-fit}
 use Rattle.theory.specs.Answers.{Taken, decode-taken, decode-opens}
+use Rattle.theory.specs.InBlocks.{Blocks, blocksAnswer, blocks-taken}
 use Rattle.theory.specs.Outcomes.{left-as-lent, left-as-done}
-use Rattle.theory.specs.Statements.{decode-falls, decode-recovers}
-use Rattle.visits.specs.Progress.{Progress}
 use Rattle.zeros.specs.Counts.{length-zeroCounts}
 use Rattle.receiver.specs.Received.{countsOf, ranOutcome, left-by}
 use Rattle.receiver.proofs.decode_with.Statement.{statement}
 use Rattle.receiver.proofs.decode_with.Tie as tie
 
-data-count-requires : tie.Need-data-count-requires
-data-count-requires c κs =
-    let b = c .before .before .before .before .before .before .before .before in
-    omega (arith, sizes-fit (b .args .code .k) (b .args .code .b) (b .pre .0) (b .pre .1))
-
 decode-fits-requires : tie.Need-decode-fits-requires
 decode-fits-requires c κs = search needs
 
-decode-answer-requires : tie.Need-decode-answer-requires
-decode-answer-requires c κs = search needs
+blocks-answer-requires : tie.Need-blocks-answer-requires
+blocks-answer-requires c κs = search needs
 
 -- the start, from where the number is known
-abbrev start : tie.After-decode-answer → tie.Start
-start c = c .before .before .before .before .before .before .before .before .before .before .before
+abbrev start : tie.After-blocks-answer → tie.Start
+start c = c .before .before .before .before .before .before .before .before .before .before
 
--- the number returned is decode's
-number : (p : tie.After-decode-answer)
+-- the number returned is that of decode in these blocks
+number : (p : tie.After-blocks-answer)
     → let a = start p .args in
     let code = codeBy (a .code) (a .positions .now) in
     let lent = stateBy (a .result .now) (a .syndrome .now) (a .difference .now) in
-    p .decode-answer .result ≡ decodeAnswer code (a .others && decodeFits code (a .page .now) lent) (a .page .now) (a .thresholds .now)
+    p .blocks-answer .result ≡ blocksAnswer code (a .block) (a .others && decodeFits code (a .page .now) lent) (a .page .now) (a .thresholds .now)
 number p =
     let a = start p .args in
-    p .decode-answer .ensures ∙ ap (λ (b : Bool). decodeAnswer (codeBy (a .code) (a .positions .now)) b (a .page .now) (a .thresholds .now))
+    p .blocks-answer .ensures ∙ ap (λ (b : Bool). blocksAnswer (codeBy (a .code) (a .positions .now)) (a .block) b (a .page .now) (a .thresholds .now))
     (p .before .decode-fits .ensures
     ∙ ap (λ (n : ℕ). a .others && (eqb (length (a .page .now)) (n + a .code .k)
     && (eqb (length (a .result .now)) n && (eqb (length (a .syndrome .now)) (a .code .k) && eqb (length (a .difference .now)) n))))
-    (p .before .before .data-count .ensures))
+    (start p .pre .0))
 
 opened-requires : tie.Need-opened-requires
 opened-requires c κs = search needs
@@ -58,39 +51,43 @@ returns c =
     let refused = c .before in
     rw (c .opened .ensures) (
       left-as-lent _ _ _ _ (number (refused .before)) (refused .if1 .taken),
-      (λ e. absurd (refused .if1 .taken e), (λ e. absurd (refused .if1 .taken e), (λ e. absurd (refused .if1 .taken e), refl))),
+      (λ e. absurd (refused .if1 .taken e), refl),
     )
 
--- what is decoded where it is not refused, and that the buffer for the zeros is large enough
+-- where it is not refused: decode's own number and the blocks, what is decoded, and that the buffer for the zeros is large enough
+answers : (c : tie.Else1)
+    → let a = start (c .before) .args in
+    let code = codeBy (a .code) (a .positions .now) in
+    let lent = stateBy (a .result .now) (a .syndrome .now) (a .difference .now) in
+    (decodeAnswer code (a .others && decodeFits code (a .page .now) lent) (a .page .now) (a .thresholds .now) ≡ 0) × Blocks code (a .block)
+answers c = let a = start (c .before) .args in blocks-taken _ _ (a .page .now) (a .thresholds .now) (a .block) (sym (number (c .before)) ∙ c .if1 .left)
+
 taken : (c : tie.Else1)
     → let a = start (c .before) .args in
     Taken (codeBy (a .code) (a .positions .now)) (a .page .now) (a .thresholds .now) (stateBy (a .result .now) (a .syndrome .now) (a .difference .now))
-taken c =
-    let a = start (c .before) .args in
-    decode-taken _ (a .others) (a .page .now) (a .thresholds .now) _ (sym (number (c .before)) ∙ c .if1 .left)
+taken c = let a = start (c .before) .args in decode-taken _ (a .others) (a .page .now) (a .thresholds .now) _ (answers c .0)
 
-room : (c : tie.Else1) → let a = start (c .before) .args in a .code .b * a .code .k ≤ length (a .zeros .now)
-room c = start (c .before) .pre .2 (taken c .opens .usable .table .sizes .data-high)
+room : (c : tie.Else1) → let a = start (c .before) .args in a .n ≤ length (a .zeros .now)
+room c =
+    let b = start (c .before) in
+    b .pre .1 (omega (arith, b .pre .0, taken c .opens .usable .table .sizes .data-high))
 
--- and the part of it that is lent
-part : (c : tie.Else1) → c .before .before .before .data-count .result ≤ length (start (c .before) .args .zeros .now)
-part c = omega (arith, c .before .before .before .data-count .ensures, room c)
+slice-relend-prefix-correct-page : tie.Need-slice-relend-prefix-correct-page
+slice-relend-prefix-correct-page c = room c
 
-slice-relend-prefix-decode-page : tie.Need-slice-relend-prefix-decode-page
-slice-relend-prefix-decode-page c = part c
+slice-aggregate-correct-page : tie.Need-slice-aggregate-correct-page
+slice-aggregate-correct-page c = sym (length-take-le _ _ (room (c .before)))
 
-slice-aggregate-decode-page : tie.Need-slice-aggregate-decode-page
-slice-aggregate-decode-page c = sym (length-take-le _ _ (part (c .before)))
-
-decode-page-requires : tie.Need-decode-page-requires
-decode-page-requires c κs =
+correct-page-requires : tie.Need-correct-page-requires
+correct-page-requires c κs =
     let e = c .before .before .before .before .before in
     let b = start (e .before) in
     let a = b .args in (
       taken e,
-      length-take-le _ _ (part e) ∙ e .before .before .before .data-count .ensures,
-      b .pre .3
-          (decode-opens _ (a .others) (a .page .now) (a .thresholds .now) (stateBy (a .result .now) (a .syndrome .now) (a .difference .now)) (sym (number (e .before)) ∙ e .if1 .left) .0),
+      answers e .1,
+      length-take-le _ _ (room e) ∙ b .pre .0,
+      b .pre .2
+          (decode-opens _ (a .others) (a .page .now) (a .thresholds .now) (stateBy (a .result .now) (a .syndrome .now) (a .difference .now)) (answers e .0) .0),
     )
 
 same-length : tie.Need-same-length
@@ -114,24 +111,19 @@ returns-2 c =
     let d = c .before .before .before .before .before .before .before .before .before .before in
     let done = d .before .before .before .before .before .before in
     let p = done .before in
-    let a = start p .args in
+    let b = start p in
+    let a = b .args in
     let code = codeBy (a .code) (a .positions .now) in
     let lent = stateBy (a .result .now) (a .syndrome .now) (a .difference .now) in
     let n = sym (done .if1 .left) ∙ number p in
-    let e = d .decode-page .ensures .0 in (
+    let e = d .correct-page .ensures .0 in (
       left-as-done _ _ _ _ n (λ i. record { state = e i .state; counts = countsOf (e i .tally) }),
       (
-        λ z. left-by code (a .page .now) (a .thresholds .now) lent (taken done .opens) _ _ e (omega (arith, room done, same-length c))
+        λ z. left-by code (a .block) (a .page .now) (a .thresholds .now) lent (taken done .opens) (answers done .1) _ _ e (omega (arith, room done, b .pre .0, same-length c))
             (λ m.
-            let z = d .decode-page .ensures .1 .0 m in
+            let z = d .correct-page .ensures .1 .0 m in
             take-at _ _ _ (ap length z ∙ length-zeroCounts _ _) ∙ z),
-        (
-          λ z. rw (ap (λ (x : Progress). x .tally) e) (decode-falls code (a .others) (a .page .now) (a .thresholds .now) lent (sym n)),
-          (
-            λ z. rw (ap (λ (x : Progress). x .state .result) e) (decode-recovers code (a .others) (a .page .now) (a .thresholds .now) lent (sym n)),
-            d .decode-page .ensures .1 .1,
-          ),
-        ),
+        d .correct-page .ensures .1 .1,
       ),
     )
 
@@ -139,14 +131,13 @@ pub decode-with-spec : {M : Type 1} → statement M
 decode-with-spec =
     tie.close
     (tie.spec
-    data-count-requires
     decode-fits-requires
-    decode-answer-requires
+    blocks-answer-requires
     opened-requires
     returns
-    slice-relend-prefix-decode-page
-    slice-aggregate-decode-page
-    decode-page-requires
+    slice-relend-prefix-correct-page
+    slice-aggregate-correct-page
+    correct-page-requires
     same-length
     same-length-2
     same-length-3

@@ -1,18 +1,16 @@
--- `write_checks`: the row of the first position is copied, the rows of the others are added to it, and that makes the check symbols.
+-- `first_row`: the data of branch 0, turned by the first position.
 use borrow.Author.Needs.{needs}
-use mathlib.Core.Path.{sym, _∙_, ap, subst}
+use mathlib.Core.Path.{sym, _∙_, subst}
 use Prim.Native.Nat.{_≤_}
 use native.Mathlib.Omega.{arith}
 use lib.ListN.{length, take}
 use lib.Seq.{length-take-le}
 use Rattle.theory.specs.Parts.{below-part}
 use Rattle.theory.specs.Steps.{SymbolsBelow}
-use Rattle.params.specs.Codes.{codeBy}
-use Rattle.codeword.specs.Sums.{added, row-below}
-use Rattle.codeword.specs.Rest.{restSum, some-position, first-inside, one-branch}
-use Rattle.codeword.specs.Checks.{checks-written}
-use Rattle.codeword.proofs.write_checks.Statement.{statement}
-use Rattle.codeword.proofs.write_checks.Tie as tie
+use Rattle.codeword.specs.Sums.{row-below}
+use Rattle.codeword.specs.Rest.{some-position, first-inside, one-branch}
+use Rattle.codeword.proofs.first_row.Statement.{statement}
+use Rattle.codeword.proofs.first_row.Tie as tie
 
 shared-slice-read-first : tie.Need-shared-slice-read-first
 shared-slice-read-first c = let b = c .before .before .before .before in omega (arith, some-position _ (b .pre .0 .table))
@@ -43,38 +41,25 @@ copy-row-requires c κs =
     let b = start c in
     (b .pre .2 ∙ sym (front b .len), omega (arith, front b .len, first-inside _ (b .pre .0 .table)))
 
-add-branches-requires : tie.Need-add-branches-requires
-add-branches-requires c κs =
-    let r = c .before .before .before in
-    let b = start (r .before) in
-    let x = b .args in (
-      b .pre .0,
-      b .pre .1,
-      subst (SymbolsBelow (x .code .q) (x .code .k)) (sym (r .copy-row .ensures))
-          (row-below (x .code .q) (omega (arith, b .pre .0 .q-low)) (x .code .k) _ _ (front b)),
-    )
-
 same-length : tie.Need-same-length
 same-length c = search needs
 
 returns : tie.Need-returns
 returns c =
-    let r = c .before .before .before .before .before .before in
+    let r = c .before .before in
     let b = start (r .before) in
-    let x = b .args in
-    let code = codeBy (x .code) (x .positions .now) in
-    c .before .before .add-branches .ensures
-    ∙ ap (added (x .code .q) (restSum code (x .«data» .now) (x .code .b))) (r .copy-row .ensures)
-    ∙ checks-written code (b .pre .0 .table) (x .«data» .now) (whole b)
+    let x = b .args in (
+      r .copy-row .ensures,
+      subst (SymbolsBelow (x .code .q) (x .code .k)) (sym (r .copy-row .ensures)) (row-below (x .code .q) (omega (arith, b .pre .0 .q-low)) (x .code .k) _ _ (front b)),
+    )
 
-pub write-checks-spec : {M : Type 1} → statement M
-write-checks-spec =
+pub first-row-spec : {M : Type 1} → statement M
+first-row-spec =
     tie.close
     (tie.spec
     shared-slice-read-first
     cast-first
     slice-aggregate-copy-row
     copy-row-requires
-    add-branches-requires
     same-length
     returns)

@@ -1,9 +1,9 @@
--- `decode_sized`: either buffer for the zeros is large enough; the rest is `decode_into`'s.
+-- `decode_blocks`: either buffer for the zeros is large enough; the rest is `decode_into`'s.
 use borrow.Author.Needs.{needs}
 use native.Mathlib.Omega.{arith}
 use Rattle.params.specs.Sizes.{sizes-fit}
-use Rattle.decoder.proofs.decode_sized.Statement.{statement}
-use Rattle.decoder.proofs.decode_sized.Tie as tie
+use Rattle.decoder.proofs.decode_blocks.Statement.{statement}
+use Rattle.decoder.proofs.decode_blocks.Tie as tie
 
 data-count-requires : tie.Need-data-count-requires
 data-count-requires c κs =
@@ -58,8 +58,8 @@ same-length-10 c = search needs
 returns-2 : tie.Need-returns-2
 returns-2 c = search needs
 
-pub decode-sized-spec : {M : Type 1} → statement M
-decode-sized-spec =
+pub decode-blocks-spec : {M : Type 1} → statement M
+decode-blocks-spec =
     tie.close
     (tie.spec
     data-count-requires
