@@ -7,6 +7,7 @@ ghost use Rattle.model.specs.Code.{codeOf};
 ghost use Rattle.model.specs.Decoder.{stateBy};
 ghost use Rattle.model.specs.Bytes.{positionsOf, cPassOutcome};
 ghost use Rattle.model.specs.Demand.{PassFalls};
+ghost use Rattle.theory.specs.Counters.{Clear};
 ghost use Rattle.params.specs.Codes.{codeBy};
 
 // One pass, with the positions read and a buffer for the zeros. The changes are written only when the call is done.
@@ -22,7 +23,8 @@ fn pass_into(
     difference: &mut [u8],
     changes: &mut [u8],
 ) -> u32
-    requires { ⌜ (code .k ≤ 4294967295) × (code .b ≤ 4294967295) × (code .b * code .k ≤ 4096 → code .b * code .k ≤ length (now zeros)) ⌝ }
+    requires { ⌜ (code .k ≤ 4294967295) × (code .b ≤ 4294967295) × (code .b * code .k ≤ 4096 → code .b * code .k ≤ length (now zeros))
+        × Clear (now zeros) ⌝ }
     ensures { λ r. ⌜ record {
       number = r;
       left = record { state = stateBy (now (result .exit)) (now (syndrome .exit)) (now (difference .exit)); changes = now (changes .exit) };

@@ -27,6 +27,7 @@ pub fn decode_into(
     counts: &mut [u8],
 ) -> u32
     requires { ⌜ (code .k ≤ 4294967295) × (code .b ≤ 4294967295) × (code .b * code .k ≤ 4096 → code .b * code .k ≤ length (now zeros))
+        × Clear (now zeros)
         × (others ≡ true → Clear (now counters)) ⌝ }
     ensures outcome { λ r. ⌜ record {
       number = r;

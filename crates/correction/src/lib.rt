@@ -24,7 +24,7 @@ pub fn state_weight(d: &[u8], s: &[u8]) -> u32
 }
 
 // Decodes a page that was tested. A page at distance 0 needs no visit to know that its passes are idle.
-// zeros has one byte a data symbol; afterwards, where the distance at the end is not 0, the zeros at the checks of each.
+// zeros has one byte a data symbol, all zero; afterwards, where the distance at the end is not 0, the zeros at the checks of each.
 // counters are 256 for a vote by them, or none, and all zero.
 pub fn decode_page(
     code: Params,
@@ -39,6 +39,7 @@ pub fn decode_page(
 ) -> Tally
     requires { ⌜ Taken (codeBy code (now positions)) (now page) (now thresholds) (stateBy (now result) (now s) (now d))
         × (length (now zeros) ≡ dataCount (codeBy code (now positions)))
+        × Clear (now zeros)
         × Clear (now counters) ⌝ }
     ensures done { λ t. ⌜ progress (now (result .exit)) (now (s .exit)) (now (d .exit)) t
         ≡ decoded (codeBy code (now (positions .entry))) (now (thresholds .entry)) (now (page .entry)) ⌝ }

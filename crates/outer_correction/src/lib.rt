@@ -16,7 +16,7 @@ ghost use Rattle.outer_correction.specs.Corrected.{corrected};
 
 // Corrects a page that was tested. Where the passes leave no distance no block has a step, whatever it sums to; blocks of 1, which are
 // those of decode, have none.
-// zeros has one byte a data symbol; afterwards, where the distance at the end is not 0, the zeros at the checks of each.
+// zeros has one byte a data symbol, all zero; afterwards, where the distance at the end is not 0, the zeros at the checks of each.
 // counters are 256 for a vote by them, or none, and all zero.
 pub fn correct_page(
     code: Params,
@@ -33,6 +33,7 @@ pub fn correct_page(
     requires { ⌜ Taken (codeBy code (now positions)) (now page) (now thresholds) (stateBy (now result) (now s) (now d))
         × Blocks (codeBy code (now positions)) block
         × (length (now zeros) ≡ dataCount (codeBy code (now positions)))
+        × Clear (now zeros)
         × Clear (now counters) ⌝ }
     ensures done { λ t. ⌜ progress (now (result .exit)) (now (s .exit)) (now (d .exit)) t
         ≡ corrected (codeBy code (now (positions .entry))) block (now (thresholds .entry)) (now (page .entry)) ⌝ }
@@ -54,6 +55,7 @@ pub fn correct_page(
         if block != 1 {
             let steps = outer_steps::outer_steps(code, positions, block, result, s, d);
             if steps != 0 {
+                slices::clear(zeros);
                 zeros::count_zeros(code, positions, s, zeros);
                 return Tally {
                     passes: ran.passes,

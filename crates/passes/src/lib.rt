@@ -80,7 +80,7 @@ fn run_counted(
 }
 
 // The passes of a decode, from an opened page. The zeros at the checks of every data symbol are counted first, into a lent buffer of
-// one byte a data symbol, which afterwards has those of the syndrome that is left. The visits vote by the counters, where 256 are lent.
+// one byte a data symbol, all zero before, which afterwards has those of the syndrome that is left. The visits vote by the counters, where 256 are lent.
 pub fn run(
     code: Params,
     positions: &[u16],
@@ -96,6 +96,7 @@ pub fn run(
         × (length (now thresholds) ≤ 64)
         × (opened .changes ≡ 0)
         × (length (now zeros) ≡ dataCount (codeBy code (now positions)))
+        × Clear (now zeros)
         × Clear (now counters) ⌝ }
     ensures ran { λ t. ⌜ progress (now (result .exit)) (now (syndrome .exit)) (now (difference .exit)) t
         ≡ runOf (codeBy code (now (positions .entry))) (now (thresholds .entry)) (progress (now (result .entry)) (now (syndrome .entry)) (now (difference .entry)) opened) ⌝ }

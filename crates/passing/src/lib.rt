@@ -9,6 +9,7 @@ ghost use Rattle.model.specs.Code.{codeOf};
 ghost use Rattle.model.specs.Decoder.{stateBy};
 ghost use Rattle.model.specs.Calls.{passOutcome};
 ghost use Rattle.model.specs.Demand.{PassFalls};
+ghost use Rattle.theory.specs.Counters.{Clear};
 ghost use Rattle.params.specs.Codes.{codeBy};
 
 // What a pass hands back beside the buffers: its number, and its changes, none where it is refused.
@@ -29,7 +30,8 @@ pub fn pass_with(
     syndrome: &mut [u8],
     difference: &mut [u8],
 ) -> Passed
-    requires { ⌜ (code .k ≤ 4294967295) × (code .b ≤ 4294967295) × (code .b * code .k ≤ 4096 → code .b * code .k ≤ length (now zeros)) ⌝ }
+    requires { ⌜ (code .k ≤ 4294967295) × (code .b ≤ 4294967295) × (code .b * code .k ≤ 4096 → code .b * code .k ≤ length (now zeros))
+        × Clear (now zeros) ⌝ }
     ensures outcome { λ r. ⌜ record {
       number = r .number;
       left = record { state = stateBy (now (result .exit)) (now (syndrome .exit)) (now (difference .exit)); changes = r .changes };

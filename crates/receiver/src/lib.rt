@@ -16,8 +16,8 @@ ghost use Rattle.margins.specs.Margins.{Left};
 ghost use Rattle.receiver.specs.Received.{countsOf, ranOutcome};
 
 // Decodes a received page into the result, S and D, for every form of the call: `others` says whether the buffers that only
-// one form lends fit, n is the number of data symbols, and zeros, which the form keeps on its stack, is what the margins are then
-// filled from. The visits vote by the counters, where 256 are lent.
+// one form lends fit, n is the number of data symbols, and zeros, which the form keeps on its stack, all zero, is what the margins
+// are then filled from. The visits vote by the counters, where 256 are lent.
 pub fn decode_with(
     others: bool,
     n: usize,
@@ -32,7 +32,7 @@ pub fn decode_with(
     syndrome: &mut [u8],
     difference: &mut [u8],
 ) -> Decoded
-    requires { ⌜ (n ≡ code .b * code .k) × (n ≤ 4096 → n ≤ length (now zeros)) × (others ≡ true → Clear (now counters)) ⌝ }
+    requires { ⌜ (n ≡ code .b * code .k) × (n ≤ 4096 → n ≤ length (now zeros)) × Clear (now zeros) × (others ≡ true → Clear (now counters)) ⌝ }
     ensures outcome { λ r. ⌜ record {
       number = r .number;
       left = record { state = stateBy (now (result .exit)) (now (syndrome .exit)) (now (difference .exit)); counts = countsOf (r .tally) };
@@ -91,6 +91,7 @@ pub fn decode_into(
     margins: &mut [i32],
 ) -> Decoded
     requires { ⌜ (code .k ≤ 4294967295) × (code .b ≤ 4294967295) × (code .b * code .k ≤ 4096 → code .b * code .k ≤ length (now zeros))
+        × Clear (now zeros)
         × (others ≡ true → Clear (now counters)) ⌝ }
     ensures outcome { λ r. ⌜ record {
       number = r .number;

@@ -2,12 +2,12 @@
 use mathlib.Core.Path.{_≡_, refl, sym, ap, _∙_}
 use mathlib.Core.Bool.{true}
 use mathlib.Core.List.{List, [], _∷_}
-use Prim.Native.Nat.{ℕ, zero, suc, _≤_, _<_}
+use Prim.Native.Nat.{ℕ, zero, suc, _+_, _≤_, _<_}
 use native.Mathlib.Decide.{decLt}
 use native.Mathlib.Omega.{arith}
 use lib.Dec.{eqb}
-use lib.ListN.{length, getD, List·getD-eq-default}
-use lib.Seq.{ext-getD}
+use lib.ListN.{length, getD, take, drop, replicate, length-take, length-replicate, getD-replicate, List·getD-eq-default}
+use lib.Seq.{ext-getD, getD-take, getD-drop}
 use Rattle.model.specs.Calls.{allBelow, countersFit}
 use Rattle.model.specs.Symbols.{count, tabulate, Below}
 use Rattle.model.specs.Vote.{leader, leadCount, nextCount, votes, votesBy, votesRead, zeroCounters, counted}
@@ -45,6 +45,30 @@ module _ (n : ℕ) (es : List ℕ) where
 abbrev pub Clear : List ℕ → Type 0
 Clear counters = counters ≡ zeroCounters (length counters)
 
+-- by each of them
+clear-at : (xs : List ℕ) → Clear xs → (i : ℕ) → getD xs i 0 ≡ 0
+clear-at xs e i = elim (decLt i (length xs)) as (λ o. getD xs i 0 ≡ 0) [
+  | yes h ↦ ap (λ (l : List ℕ). getD l i 0) e ∙ getD-tabulate (length xs) (λ v. 0) i h
+  | no h ↦ List·getD-eq-default xs 0 {n = i} (omega arith)
+]
+
+clear-by : (xs : List ℕ) → ((i : ℕ) → i < length xs → getD xs i 0 ≡ 0) → Clear xs
+clear-by xs f =
+    ext-getD 0 xs (zeroCounters (length xs)) (sym (length-tabulate (length xs) (λ v. 0))) (λ i h. f i h ∙ sym (getD-tabulate (length xs) (λ v. 0) i h))
+
+-- an array that was made of zeros, one that was cleared, and a part of what is all zero
+pub clear-made : (n : ℕ) → Clear (replicate n 0)
+clear-made n = clear-by (replicate n 0) (λ i h. getD-replicate n i 0 0 (omega (arith, length-replicate {A = ℕ} n 0)))
+
+pub clear-written : (n : ℕ) (xs : List ℕ) → xs ≡ zeroCounters n → Clear xs
+clear-written n xs e = e ∙ ap zeroCounters (sym (ap length e ∙ length-tabulate n (λ v. 0)))
+
+pub clear-part : (a n : ℕ) (xs : List ℕ) → Clear xs → Clear (take n (drop a xs))
+clear-part a n xs e = clear-by (take n (drop a xs)) (λ i h. getD-take n (drop a xs) i 0 (omega (arith, length-take n (drop a xs))) ∙ getD-drop a xs i 0 ∙ clear-at xs e (a + i))
+
+pub clear-front : (n : ℕ) (xs : List ℕ) → Clear xs → Clear (take n xs)
+clear-front n xs e = clear-by (take n xs) (λ i h. getD-take n xs i 0 (omega (arith, length-take n xs)) ∙ clear-at xs e i)
+
 pub none-clear : Clear []
 unfolding tabulate
 none-clear = refl
@@ -62,6 +86,4 @@ fit-zero counters e =
     z ∙ sym (getD-tabulate 256 (λ w. 0) v (omega arith)))
 
 pub fit-clear : (counters : List ℕ) → countersFit counters ≡ true → Clear counters
-fit-clear counters e =
-    let z : counters ≡ zeroCounters 256 = fit-zero counters e in
-    z ∙ ap zeroCounters (sym (ap length z ∙ length-tabulate 256 (λ v. 0)))
+fit-clear counters e = clear-written 256 counters (fit-zero counters e)

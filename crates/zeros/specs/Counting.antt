@@ -1,5 +1,5 @@
 -- The zeros of all data symbols, written branch by branch.
-use mathlib.Core.Path.{_≡_, refl, ap, sym, _∙_}
+use mathlib.Core.Path.{_≡_, refl, ap, sym, _∙_, subst}
 use mathlib.Core.List.{List}
 use Prim.Native.Nat.{ℕ, _+_, _-_, _<_, _≤_}
 use native.Mathlib.Nat.{add-sub-cancel-left, mul-le-mul-right}
@@ -9,6 +9,7 @@ use lib.ListN.{length, take, drop}
 use Rattle.model.specs.Code.{Code, dataCount, checksEach, branchAt}
 use Rattle.model.specs.Limits.{SizeLimits}
 use Rattle.theory.specs.Branches.{Passed, passed-none, next-branch, passed-all}
+use Rattle.theory.specs.Counters.{Clear, clear-part}
 use Rattle.theory.specs.Parts.{part-length, partly, partly-rest, partly-length, partly-turn, partly-all}
 use Rattle.zeros.specs.Counts.{runZeros, zeroCounts, length-zeroCounts, zeroCounts-part}
 
@@ -35,6 +36,12 @@ module _ {c : Code} {s zs₀ : List ℕ} {from at r : ℕ} {zs : List ℕ} (l : 
   -- the part of the next branch: its length, and what it holds still, where the buffer had the zeros of t
   pub counting-part-length : r < c .b → length (take (at + c .k - at) (drop at zs)) ≡ c .k
   counting-part-length h = part-length at (c .k) zs (omega (arith, counting-length, next-branch l (w .passed) (checksEach c) refl h .data-in))
+
+  -- and where it was all zero
+  pub counting-part-clear : Clear zs₀ → Clear (take (at + c .k - at) (drop at zs))
+  counting-part-clear e =
+      subst (λ (z : List ℕ). Clear (take (at + c .k - at) z))
+      (sym (ap (λ (z : List ℕ). drop at z) (w .written) ∙ partly-rest (zeroCounts c s) zs₀ same at inside)) (clear-part at (at + c .k - at) zs₀ e)
 
   pub counting-part : (t : List ℕ) → zs₀ ≡ zeroCounts c t → r < c .b → take (at + c .k - at) (drop at zs) ≡ runZeros (c .k) (branchAt c r) t
   counting-part t e h =

@@ -5,6 +5,7 @@ ghost use Prim.Native.Nat.{_<_};
 ghost use lib.ListN.{length};
 ghost use Rattle.model.specs.Code.{dataCount};
 ghost use Rattle.model.specs.Symbols.{Below, tabulate};
+ghost use Rattle.theory.specs.Counters.{Clear};
 ghost use Rattle.params.specs.Codes.{codeBy};
 ghost use Rattle.checks.specs.Checks.{AtChecks};
 ghost use Rattle.checks.specs.Places.{AtTable};
@@ -33,12 +34,11 @@ fn add_zeros_from(k: usize, p: usize, acc: &mut [u8], src: &[u8])
     add_zeros(&mut acc[..rest], &src[p..]);
 }
 
-// For each symbol of a branch, whose run of positions is lent, the zeros of the syndrome at its checks.
+// For each symbol of a branch, whose run of positions is lent, the zeros of the syndrome at its checks, counted up from 0.
 fn count_run(code: Params, positions: &[u16], s: &[u8], zeros: &mut [u8])
-    requires { ⌜ AtChecks (code .k) (now positions) (now s) × (length (now zeros) ≡ code .k) ⌝ }
+    requires { ⌜ AtChecks (code .k) (now positions) (now s) × (length (now zeros) ≡ code .k) × Clear (now zeros) ⌝ }
     ensures { λ _. ⌜ now (zeros .exit) ≡ runZeros (code .k) (now (positions .entry)) (now (s .entry)) ⌝ }
 {
-    slices::clear(zeros);
     let mut i = 0;
     while i < positions.len() {
         add_zeros_from(code.k, positions[i] as usize, zeros, s);
@@ -46,9 +46,11 @@ fn count_run(code: Params, positions: &[u16], s: &[u8], zeros: &mut [u8])
     }
 }
 
-// For each data symbol, the zeros of the syndrome at its checks, branch by branch.
+// For each data symbol, the zeros of the syndrome at its checks, branch by branch, counted up from 0 in a buffer that is all zero.
 pub fn count_zeros(code: Params, positions: &[u16], s: &[u8], zeros: &mut [u8])
-    requires { ⌜ AtTable (codeBy code (now positions)) (now s) × (length (now zeros) ≡ dataCount (codeBy code (now positions))) ⌝ }
+    requires { ⌜ AtTable (codeBy code (now positions)) (now s)
+        × (length (now zeros) ≡ dataCount (codeBy code (now positions)))
+        × Clear (now zeros) ⌝ }
     ensures { λ _. ⌜ now (zeros .exit) ≡ zeroCounts (codeBy code (now (positions .entry))) (now (s .entry)) ⌝ }
 {
     let k = code.k;

@@ -8,7 +8,7 @@ use Rattle.model.specs.Bytes.{positionsOf, cDecodeOutcome, cDecodeCountersOutco
 use Rattle.model.specs.Code.{codeOf}
 use Rattle.model.specs.Decoder.{stateBy}
 use Rattle.octets.specs.Reads.{decode-read}
-use Rattle.theory.specs.Counters.{fit-clear}
+use Rattle.theory.specs.Counters.{clear-made, fit-clear}
 use Rattle.theory.specs.InBlocks.{c-decode-done}
 use Rattle.c_counters.proofs.decode_counters.Statement.{statement}
 use Rattle.c_counters.proofs.decode_counters.Tie as tie
@@ -32,7 +32,7 @@ slice-aggregate-decode-into-2 : tie.Need-slice-aggregate-decode-into-2
 slice-aggregate-decode-into-2 c = search needs
 
 decode-into-requires : tie.Need-decode-into-requires
-decode-into-requires c κs = (omega arith, omega arith, λ h. h, λ e. fit-clear _ (sym (c .before .before .before .before .before .before .before .before .before .before .before .counters-fit .ensures) ∙ e))
+decode-into-requires c κs = (omega arith, omega arith, λ h. h, clear-made 4096, λ e. fit-clear _ (sym (c .before .before .before .before .before .before .before .before .before .before .before .counters-fit .ensures) ∙ e))
 
 same-length : tie.Need-same-length
 same-length c = search needs

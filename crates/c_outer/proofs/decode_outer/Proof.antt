@@ -16,7 +16,7 @@ use Rattle.model.specs.Outer.{outerCounts}
 use Rattle.params.specs.Sizes.{sizes-fit}
 use Rattle.octets.specs.Positions.{kept, small-fits}
 use Rattle.octets.specs.Reads.{decode-read}
-use Rattle.theory.specs.Counters.{none-clear}
+use Rattle.theory.specs.Counters.{none-clear, clear-made}
 use Rattle.theory.specs.InBlocks.{lengthOf, cDecodeForm, c-decode-outer-done}
 use Rattle.c_outer.proofs.decode_outer.Statement.{statement}
 use Rattle.c_outer.proofs.decode_outer.Tie as tie
@@ -88,7 +88,7 @@ slice-aggregate-decode-into-3 c = search needs
 decode-into-requires : tie.Need-decode-into-requires
 decode-into-requires c κs =
     let t = c .before .before .before .before .before .before .before .before .before .before .before in
-    (omega arith, omega arith, (λ _. omega (arith, small t .1)), (λ _. none-clear))
+    (omega arith, omega arith, (λ _. omega (arith, small t .1)), clear-made 128, (λ _. none-clear))
 
 same-length : tie.Need-same-length
 same-length c = search needs
@@ -131,7 +131,7 @@ slice-aggregate-decode-into-6 : tie.Need-slice-aggregate-decode-into-6
 slice-aggregate-decode-into-6 c = search needs
 
 decode-into-requires-2 : tie.Need-decode-into-requires-2
-decode-into-requires-2 c κs = (omega arith, omega arith, (λ h. h), (λ _. none-clear))
+decode-into-requires-2 c κs = (omega arith, omega arith, (λ h. h), clear-made 4096, (λ _. none-clear))
 
 same-length-6 : tie.Need-same-length-6
 same-length-6 c = search needs

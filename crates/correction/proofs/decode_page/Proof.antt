@@ -69,6 +69,7 @@ run-requires c κs =
       ap (λ (t : Tally). t .changes) (t .opened2 .ensures),
       b .pre .1,
       b .pre .2,
+      b .pre .3,
     )
 
 -- what the passes left is the run from the opened page

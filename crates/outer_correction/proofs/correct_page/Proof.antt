@@ -6,6 +6,7 @@ use Rattle.model.specs.Code.{Code}
 use Rattle.model.specs.Decoder.{State, stateBy, stateWeight}
 use Rattle.params.specs.Codes.{codeBy}
 use Rattle.theory.specs.Answers.{Opens, BlockFits}
+use Rattle.theory.specs.Counters.{clear-written}
 use Rattle.outer_steps.specs.Blocks.{Stepped}
 use Rattle.visits.specs.Progress.{Progress, progress, Ready, at-table}
 use Rattle.zeros.specs.Counts.{zeroCounts}
@@ -47,7 +48,7 @@ fits : (x : tie.After-outer-steps) → let b = start (before-steps x) in BlockFi
 fits x = start (before-steps x) .pre .1 (some x .if2 .taken)
 
 decode-page-requires : tie.Need-decode-page-requires
-decode-page-requires c κs = let p = c .before .before .before .before .before .before .before .before .before .before .before .before .before .pre in (p .0, p .2, p .3)
+decode-page-requires c κs = let p = c .before .before .before .before .before .before .before .before .before .before .before .before .before .pre in (p .0, p .2, p .3, p .4)
 
 outer-steps-requires : tie.Need-outer-steps-requires
 outer-steps-requires c κs =
@@ -62,22 +63,33 @@ ready x =
     let b = start d in
     stepped-ready (codeAt b) _ _ _ _ (opens b) (passed d) (d .decode-page .ensures .0) (fits x) (stepped x) (x .outer-steps .ensures)
 
+clear-requires : tie.Need-clear-requires
+clear-requires c κs = search needs
+
+-- the steps, from where the zeros are counted anew
+abbrev recounted : tie.After-count-zeros-arg2 → tie.After-outer-steps
+recounted c = steps (c .before .before .before .before .before .before .before)
+
 count-zeros-requires : tie.Need-count-zeros-requires
 count-zeros-requires c κs =
-    let x = steps (c .before .before .before) in
-    let b = start (before-steps x) in
-    (at-table _ _ (ready x), omega (arith, some x .before .before .before .before .before .before .before .before .before .before .before .before .zeros .given, b .pre .2))
+    let z = c .before .before .before in
+    let x = recounted c in
+    let b = start (before-steps x) in (
+      at-table _ _ (ready x),
+      omega (arith, z .zeros2 .given, some x .before .before .before .before .before .before .before .before .before .before .before .before .zeros .given, b .pre .2),
+      clear-written _ _ (z .before .clear .ensures),
+    )
 
-add-t37 : tie.Need-add-t37
-add-t37 c =
-    let x = steps (c .before .before .before .before .before .before .before) in
+add-t39 : tie.Need-add-t39
+add-t39 c =
+    let x = recounted (c .before .before .before .before) in
     let d = before-steps x in
     let b = start d in
     record { fits = omega (arith, stepped-few (codeAt b) (b .args .block) _ _ _ (opens b) (passed d) (d .decode-page .ensures .0) (fits x) (stepped x) (x .outer-steps .ensures)) }
 
 state-weight-requires : tie.Need-state-weight-requires
 state-weight-requires c κs =
-    let r = ready (steps (c .before .before .before .before .before .before .before .before .before)) in
+    let r = ready (recounted (c .before .before .before .before .before .before)) in
     let z = r .usable .table .sizes in
     (omega (arith, r .sized .len-difference, z .data-high), omega (arith, r .sized .len-syndrome, z .k-high))
 
@@ -101,7 +113,7 @@ returns : tie.Need-returns
 unfolding stateWeight
 returns c =
     let k = c .before .before .before .before .before .before in
-    let x = steps (k .before .before .before .before) in
+    let x = recounted (k .before) in
     let d = before-steps x in
     let b = start d in (
       steps-corrected (codeAt b) _ _ _ _ (opens b) (passed d) (d .decode-page .ensures .0) (fits x) (stepped x) (x .outer-steps .ensures) _ (c .state-weight .ensures),
@@ -182,8 +194,9 @@ correct-page-spec =
     (tie.spec
     decode-page-requires
     outer-steps-requires
+    clear-requires
     count-zeros-requires
-    add-t37
+    add-t39
     state-weight-requires
     same-length
     same-length-2

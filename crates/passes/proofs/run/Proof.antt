@@ -5,13 +5,13 @@ use Rattle.passes.proofs.run.Statement.{statement}
 use Rattle.passes.proofs.run.Tie as tie
 
 count-zeros-requires : tie.Need-count-zeros-requires
-count-zeros-requires c κs = let p = c .before .before .before .before .before .before .before .before .before .pre in (at-table _ _ (p .0), p .3)
+count-zeros-requires c κs = let p = c .before .before .before .before .before .before .before .before .before .pre in (at-table _ _ (p .0), p .3, p .4)
 
 run-counted-requires : tie.Need-run-counted-requires
 run-counted-requires c κs =
     let z = c .before .before .before .before .before .before .before in
     let p = z .before .before .before .before .before .before .before .before .before .before .pre in
-    (p .0, p .1, p .2, z .count-zeros .ensures, p .4)
+    (p .0, p .1, p .2, z .count-zeros .ensures, p .5)
 
 same-length : tie.Need-same-length
 same-length c = search needs

@@ -2,6 +2,7 @@
 use borrow.Author.Needs.{needs}
 use native.Mathlib.Omega.{arith}
 use Rattle.params.specs.Sizes.{sizes-fit}
+use Rattle.theory.specs.Counters.{clear-made}
 use Rattle.passing.proofs.pass.Statement.{statement}
 use Rattle.passing.proofs.pass.Tie as tie
 
@@ -14,7 +15,7 @@ slice-aggregate-pass-with : tie.Need-slice-aggregate-pass-with
 slice-aggregate-pass-with c = search needs
 
 pass-with-requires : tie.Need-pass-with-requires
-pass-with-requires c κs = search needs
+pass-with-requires c κs = search (needs, clear-made)
 
 same-length : tie.Need-same-length
 same-length c = search needs
@@ -32,7 +33,7 @@ slice-aggregate-pass-with-2 : tie.Need-slice-aggregate-pass-with-2
 slice-aggregate-pass-with-2 c = search needs
 
 pass-with-requires-2 : tie.Need-pass-with-requires-2
-pass-with-requires-2 c κs = search needs
+pass-with-requires-2 c κs = (omega arith, omega arith, λ h. h, clear-made 4096)
 
 same-length-4 : tie.Need-same-length-4
 same-length-4 c = search needs

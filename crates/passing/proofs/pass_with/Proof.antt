@@ -14,7 +14,7 @@ use Rattle.params.specs.Codes.{codeBy}
 use Rattle.params.specs.Sizes.{sizes-fit}
 use Rattle.tally.specs.declared.Tally.{Tally}
 use Rattle.theory.specs.Answers.{PassTaken, pass-taken, table-usable}
-use Rattle.theory.specs.Counters.{none-clear}
+use Rattle.theory.specs.Counters.{none-clear, clear-front}
 use Rattle.theory.specs.Outcomes.{left-as-lent, left-as-done}
 use Rattle.theory.specs.Statements.{pass-falls}
 use Rattle.passing.specs.Once.{taken-ready, once-state, once-changes}
@@ -104,6 +104,7 @@ run-requires c κs =
       omega arith,
       ap (λ (t : Tally). t .changes) (o .opened .ensures),
       length-take-le _ _ (omega (arith, counted e, room e)) ∙ counted e,
+      clear-front (e .before .before .before .before .before .before .data-count .result) (start (e .before) .args .zeros .now) (start (e .before) .pre .3),
       none-clear,
     )
 

@@ -11,6 +11,7 @@ use Rattle.model.specs.Calls.{decodeFits, decodeAnswer}
 use Rattle.model.specs.Decoder.{stateBy}
 use Rattle.params.specs.Codes.{codeBy}
 use Rattle.theory.specs.Answers.{Taken, decode-taken, decode-opens}
+use Rattle.theory.specs.Counters.{clear-front}
 use Rattle.theory.specs.InBlocks.{Blocks, blocksAnswer, blocks-taken}
 use Rattle.theory.specs.Outcomes.{left-as-lent, left-as-done}
 use Rattle.zeros.specs.Counts.{length-zeroCounts}
@@ -86,7 +87,8 @@ correct-page-requires c κs =
       taken e,
       answers e .1,
       length-take-le _ _ (room e) ∙ b .pre .0,
-      b .pre .2
+      clear-front (a .n) (a .zeros .now) (b .pre .2),
+      b .pre .3
           (decode-opens _ (a .others) (a .page .now) (a .thresholds .now) (stateBy (a .result .now) (a .syndrome .now) (a .difference .now)) (answers e .0) .0),
     )
 

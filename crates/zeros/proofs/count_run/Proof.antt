@@ -19,17 +19,14 @@ abbrev μ-loop : tie.MeasureT-loop
 
 -- the start, seen from the loop
 abbrev start : tie.At-loop Inv-loop μ-loop → tie.Start Inv-loop μ-loop
-start c = c .before .before .before .before .before .before .before .before
-
-clear-requires : tie.Need-clear-requires Inv-loop μ-loop
-clear-requires c κs = search needs
+start c = c .before .before .before .before
 
 loop-holds : tie.Need-loop-holds Inv-loop μ-loop
 loop-holds c =
-    let b = c .before .before .before .before .before .before .before in
+    let b = c .before .before .before in
     let a = b .args in (
       omega arith,
-      c .before .before .clear .ensures ∙ ap (λ (n : ℕ). tabulate n (λ j. 0)) (b .pre .1) ∙ runZeros-none (a .code .k) (a .positions .now) (a .s .now),
+      b .pre .2 ∙ ap (λ (n : ℕ). tabulate n (λ j. 0)) (b .pre .1) ∙ runZeros-none (a .code .k) (a .positions .now) (a .s .now),
     )
 
 mul-add-zeros-from : tie.Need-mul-add-zeros-from Inv-loop μ-loop
@@ -79,7 +76,6 @@ count-run-spec =
     (tie.spec
     Inv-loop
     μ-loop
-    clear-requires
     loop-holds
     mul-add-zeros-from
     shared-slice-read-add-zeros-from

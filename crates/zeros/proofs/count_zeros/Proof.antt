@@ -7,7 +7,7 @@ use Rattle.model.specs.Code.{Code}
 use Rattle.params.specs.Codes.{codeBy}
 use Rattle.theory.specs.Branches.{Branch, next-branch}
 use Rattle.checks.specs.Checks.{at-run}
-use Rattle.zeros.specs.Counting.{Counting, counting-none, counting-length, counting-part-length, counting-turn, counting-all}
+use Rattle.zeros.specs.Counting.{Counting, counting-none, counting-length, counting-part-length, counting-part-clear, counting-turn, counting-all}
 use Rattle.zeros.specs.Counts.{runZeros}
 use Rattle.zeros.proofs.count_zeros.Statement.{statement}
 use Rattle.zeros.proofs.count_zeros.Tie as tie
@@ -68,9 +68,11 @@ part-count-run-end-2 c =
 count-run-requires : tie.Need-count-run-requires Inv-loop μ-loop
 count-run-requires c κs =
     let l = c .before .before .before .before in
-    let t = start l .pre .0 in (
+    let p = start l .pre in
+    let t = p .0 in (
       rw (branch (c .before .before) .run) (at-run (code l) (t .table) _ (omega arith) _ (t .len)),
       counting-part-length (t .table .sizes) (l .loop .inv) (omega arith),
+      counting-part-clear (t .table .sizes) (l .loop .inv) (p .2),
     )
 
 add-from : tie.Need-add-from Inv-loop μ-loop
