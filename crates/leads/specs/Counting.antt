@@ -2,7 +2,8 @@
 use mathlib.Core.Path.{_≡_, refl, sym, ap, subst, _∙_}
 use mathlib.Core.Bool.{true, false}
 use mathlib.Core.List.{List, [], _∷_}
-use Prim.Native.Nat.{ℕ, zero, suc, _+_, _%_, _≤_, _<_}
+use Prim.Native.Nat.{ℕ, zero, suc, _+_, _-_, _%_, _≤_, _<_}
+use native.Mathlib.Nat.{mod-eq-of-lt, add-mod-right}
 use native.Mathlib.Numerals.{add-one}
 use native.Mathlib.Omega.{arith}
 use lib.Dec.{ltb}
@@ -22,6 +23,15 @@ unfolding symbolsAt checksBy
 symbol-at k [] j s i h = absurd (omega arith)
 symbol-at k (p ∷ ps) j s zero h = refl
 symbol-at k (p ∷ ps) j s (suc i) h = symbol-at k ps j s i (omega arith)
+
+-- the check by a position, where k is j and room together: straight on from j, or turned
+pub straight-at : (j p room : ℕ) → p < room → j + p ≡ (j + p) % (j + room)
+straight-at j p room h = sym (mod-eq-of-lt (omega (arith, h)))
+
+pub turned-at : (j p room : ℕ) → room ≤ p → p < j + room → p - room ≡ (j + p) % (j + room)
+turned-at j p room h l =
+    let e : j + p ≡ p - room + (j + room) = omega arith in
+    sym (ap (λ (n : ℕ). n % (j + room)) e ∙ add-mod-right (p - room) (j + room) ∙ mod-eq-of-lt (omega (arith, h, l)))
 
 module _ (k : ℕ) (ps : List ℕ) (j own : ℕ) (s : List ℕ) (bound : ℕ) where
   -- the estimates
