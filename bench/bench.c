@@ -485,9 +485,14 @@ int main(int argc, char **argv)
         } else if (strcmp(argv[i], "--rows") == 0 && i + 1 < argc) {
             filter = argv[++i];
         } else {
-            fprintf(stderr, "bench [--quick] [--ns] [--count] [--before] [--counters] [--outer] [--passes] [--rows FILTER]\n");
+            fprintf(stderr, "bench [--quick] [--ns] [--count] [--before] [--counters] [--outer] [--passes] "
+                            "[--rows FILTER]\n");
             return 2;
         }
+    if (compared->count < 2) {
+        fprintf(stderr, "no archive to compare with: QMTD_BEFORE names one\n");
+        return 2;
+    }
 
     /* The whole table is swept several times: a burst of other load then spoils one sweep of a row, not all. */
     int sweeps = quick || count || passes ? 1 : 4, rounds = quick ? 5 : 30, rows = 0;
