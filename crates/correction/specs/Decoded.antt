@@ -4,7 +4,7 @@ use mathlib.Core.List.{List}
 use Prim.Native.Nat.{ℕ, _+_, _≤_}
 use native.Mathlib.Omega.{arith}
 use lib.ListN.{length}
-use Rattle.model.specs.Code.{Code, dataCount, checksOf}
+use Rattle.model.specs.Code.{highest, Code, dataCount, checksOf}
 use Rattle.model.specs.Decoder.{State, changeCount, passes, none, thresholdsRun, dataSymbols, opened, passesOf, run, distanceTo, Counts, decodedState, decodedCounts, stateWeight}
 use Rattle.model.specs.Symbols.{weight}
 use Rattle.theory.specs.Answers.{Opens}
@@ -39,8 +39,8 @@ weights-small xs ys a b = omega (arith, zeros-weight xs, zeros-weight ys)
 -- ---- the opened page
 
 module _ (c : Code) (page : List ℕ) (lent : State) (o : Opens c page lent) where
-  pub opened-ready : Ready c (opened c page)
-  opened-ready = record { usable = o .usable; bytes = o .bytes; sized = code-opened-sized c (o .usable) page (o .whole) }
+  pub opened-ready : highest (c .profile) ≤ 256 → Ready c (opened c page)
+  opened-ready h = record { usable = o .usable; bytes = omega (arith, o .high); sized = code-opened-sized c (o .usable) page (o .whole) }
 
   range : (ts : List ℕ) → InRange (dataCount c) (run c ts page)
   unfolding run
@@ -89,7 +89,7 @@ module _ (c : Code) (page : List ℕ) (lent : State) (o : Opens c page lent) whe
     unfolding runOf passesFrom ran
     run-lengths =
         let z = after-sized (code-incidence c (o .usable)) (passes (dataSymbols c) (thresholdsRun (c .q) (checksOf c) (dataSymbols c) none ts (opened c page)))
-        (opened c page) (opened-ready .sized) in
+        (opened c page) (code-opened-sized c (o .usable) page (o .whole)) in
         let l = o .usable .table .sizes in
         rw f (omega (arith, z .len-difference, l .data-high), omega (arith, z .len-syndrome, l .k-high))
 

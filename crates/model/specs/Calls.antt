@@ -6,7 +6,7 @@ use lib.Dec.{eqb, ltb, leb}
 use lib.IntN.{ℤ}
 use lib.ListN.{length}
 use Rattle.model.specs.Symbols.{choose}
-use Rattle.model.specs.Code.{Code, dataCount, checkCount, pageLength, checksEach, checksOf, branchAt, codeWord, syndrome, everyBelow, selfOrthogonal}
+use Rattle.model.specs.Code.{Code, lowest, highest, dataCount, checkCount, pageLength, checksEach, checksOf, branchAt, codeWord, syndrome, everyBelow, selfOrthogonal}
 use Rattle.model.specs.Vote.{leader, leadCount, nextCount, ground, equalBits}
 use Rattle.model.specs.Outer.{outerWord, outerState, outerCounts}
 use Rattle.model.specs.Decoder.{State, Visit, estimates, after, changeCount, pass, passes, dataSymbols, opened, Counts, decodedState, decodedCounts, marginsOf}
@@ -48,11 +48,11 @@ branchesFit c = within 1 8 (c .b) && leb (dataCount c) 4096
 abbrev pub runsFit : Code → Bool
 runsFit c = eqb (length (c .positions)) (c .b * checksEach c) && within 1 32 (checksEach c)
 
--- 1 to 3, by the table of quantities: q from 3 to 256, k from 1 to 4,096, J from 1 to 32;
+-- 1 to 3, by the table of quantities: q of the profile ("Here 1 refuses all but q = 2", N9), k from 1 to 4,096, J from 1 to 32;
 -- "10, after 2: b outside 1 to 8, or b times k above 4,096. 3 also if the table isn't b runs of equal length." (N2)
 unfoldable pub sizeTests : Code → List Test
 sizeTests c =
-    test 1 (not (within 3 256 (c .q))) ∷ test 2 (not (within 1 4096 (c .k))) ∷ test 10 (not (branchesFit c)) ∷ test 3 (not (runsFit c)) ∷ []
+    test 1 (not (within (lowest (c .profile)) (highest (c .profile)) (c .q))) ∷ test 2 (not (within 1 4096 (c .k))) ∷ test 10 (not (branchesFit c)) ∷ test 3 (not (runsFit c)) ∷ []
 
 -- the positions of each run are below k and ascend
 abbrev pub tableFits : Code → Bool

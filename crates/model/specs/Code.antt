@@ -1,4 +1,4 @@
--- The code: its table of positions, the checks of a data symbol, code word and syndrome, and when the table is self-orthogonal.
+-- The code: its profile, its table of positions, the checks of a data symbol, code word and syndrome, and when the table is self-orthogonal.
 use mathlib.Core.Logic.{_≢_}
 use mathlib.Core.Bool.{Bool, true, _&&_, _||_}
 use mathlib.Core.List.{List, [], _∷_, _++_}
@@ -7,17 +7,46 @@ use lib.Dec.{eqb, leb}
 use lib.ListN.{length, getD, take, drop}
 use Rattle.model.specs.Symbols.{choose, sub, count, sumOver, sumBelow, tabulate, joinBelow}
 
+-- the sizes of alphabet that a group of calls takes: symbols of a byte, "A profile for bit pages" (N9), "Two-byte and four-byte symbols" (N10)
+pub data Profile : Type 0 where
+  bytes : Profile
+  bits : Profile
+  words16 : Profile
+  words32 : Profile
+
+-- the smallest and the largest: q from 3 to 256; "In this profile q is 2" (N9); "Support q = 65,536 and q = 4,294,967,296" (N10)
+abbrev pub lowest : Profile → ℕ
+lowest bytes = 3
+lowest bits = 2
+lowest words16 = 65536
+lowest words32 = 4294967296
+
+abbrev pub highest : Profile → ℕ
+highest bytes = 256
+highest bits = 2
+highest words16 = 65536
+highest words32 = 4294967296
+
 -- "q is the alphabet size"; "A code may have b data branches of k symbols each, with k checks for all of them.
--- The table holds b runs of J positions" (N2): the positions of all runs, one run after the other
+-- The table holds b runs of J positions" (N2): the positions of all runs, one run after the other. The profile matters to test 1 alone
 pub record Code : Type 0 where
+  pub profile : Profile
   pub q : ℕ
   pub k : ℕ
   pub b : ℕ
   pub positions : List ℕ
 
--- the code of a call's q, k, b and table
+-- the code of a call's q, k, b and table, by the profile of the call
+abbrev pub codeIn : Profile → ℕ → ℕ → ℕ → List ℕ → Code
+codeIn profile q k b positions = record { profile = profile; q = q; k = k; b = b; positions = positions }
+
+-- of the calls on bytes
 abbrev pub codeOf : ℕ → ℕ → ℕ → List ℕ → Code
-codeOf q k b positions = record { q = q; k = k; b = b; positions = positions }
+codeOf q k b positions = codeIn bytes q k b positions
+
+-- of the calls on wide symbols, which have no q: the profile has one
+abbrev pub wideCode : Profile → ℕ → ℕ → List ℕ → Code
+wideCode profile k b positions = codeIn profile (highest profile) k b positions
 
 -- "Data, result, D and margins have b times k places"
 abbrev pub dataCount : Code → ℕ

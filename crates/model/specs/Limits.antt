@@ -3,7 +3,7 @@ use mathlib.Core.Path.{_≡_}
 use mathlib.Core.List.{List}
 use Prim.Native.Nat.{ℕ, suc, _*_, _<_, _≤_}
 use lib.ListN.{length, getD}
-use Rattle.model.specs.Code.{Code, dataCount, checksEach, branchAt}
+use Rattle.model.specs.Code.{Code, lowest, highest, dataCount, checksEach, branchAt}
 
 -- of a run of positions: "strictly ascending, each below k"
 pub record Ascending (k : ℕ) (ps : List ℕ) : Type 0 where
@@ -26,8 +26,8 @@ pub record TableLimits (c : Code) : Type 0 where
   pub sizes : SizeLimits c
   pub ascending : (r : ℕ) → r < c .b → Ascending (c .k) (branchAt c r)
 
--- and q from 3 to 256
+-- and q is one of the profile's: from 3 to 256, for bits 2, for wide symbols the number of their values
 pub record Limits (c : Code) : Type 0 where
-  pub q-low : 3 ≤ c .q
-  pub q-high : c .q ≤ 256
+  pub q-low : lowest (c .profile) ≤ c .q
+  pub q-high : c .q ≤ highest (c .profile)
   pub table : TableLimits c

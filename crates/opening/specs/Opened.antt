@@ -1,9 +1,9 @@
 -- The opened page: its parts, and its distance, which is the weight of the syndrome.
 use mathlib.Core.Path.{_≡_, refl, sym, _∙_}
 use mathlib.Core.List.{List, []}
-use Prim.Native.Nat.{ℕ, zero, suc}
+use Prim.Native.Nat.{ℕ, zero, suc, _≤_}
 use native.Mathlib.Omega.{arith}
-use Rattle.model.specs.Code.{Code, dataCount, dataOf, syndrome}
+use Rattle.model.specs.Code.{highest, Code, dataCount, dataOf, syndrome}
 use Rattle.model.specs.Decoder.{State, stateBy, after, opened, distanceTo, stateWeight}
 use Rattle.model.specs.Symbols.{weight, tabulate}
 use Rattle.theory.specs.Answers.{Opens}
@@ -21,8 +21,8 @@ unfolding opened
 opened-by c page r s d e f g = λ i. record { result = e i; syndrome = f i; difference = g i }
 
 module _ (c : Code) (page : List ℕ) (lent : State) (o : Opens c page lent) where
-  pub opens-bytes : ByteCode c
-  opens-bytes = record { q-low = o .usable .q-low; q-high = o .bytes; table = o .usable .table }
+  pub opens-bytes : highest (c .profile) ≤ 256 → ByteCode c
+  opens-bytes h = record { q-low = o .usable .q-low; q-high = omega (arith, o .high); table = o .usable .table }
 
   pub opened-weight : distanceTo c page (opened c page) ≡ stateWeight (opened c page)
   unfolding after

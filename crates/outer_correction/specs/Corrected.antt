@@ -4,7 +4,7 @@ use mathlib.Core.List.{List, []}
 use Prim.Native.Nat.{ℕ, _+_, _≤_}
 use native.Mathlib.Decide.{ℕ-discrete}
 use native.Mathlib.Omega.{arith}
-use Rattle.model.specs.Code.{Code, dataCount, checkCount, checksOf}
+use Rattle.model.specs.Code.{highest, Code, dataCount, checkCount, checksOf}
 use Rattle.model.specs.Decoder.{State, after, dataSymbols, opened, passesOf, run, distanceTo, decodedState, decodedCounts, stateWeight}
 use Rattle.model.specs.Outer.{blockCount, outerSteps, stepCount, outerState, outerCounts}
 use Rattle.theory.specs.Answers.{Opens, BlockFits}
@@ -36,8 +36,8 @@ module _ (c : Code) (L : ℕ) (ts page : List ℕ) (lent : State) (o : Opens c p
   unfolding decodedState
   passes-on = code-on c (o .usable) page (o .whole) (run c ts page) range
 
-  passes-ready : Ready c st
-  passes-ready = record { usable = o .usable; bytes = o .bytes; sized = passes-on .sized }
+  passes-ready : highest (c .profile) ≤ 256 → Ready c st
+  passes-ready h = record { usable = o .usable; bytes = omega (arith, o .high); sized = passes-on .sized }
 
   -- they change no more often than the distance at the start tells
   changes-few : decodedCounts c ts page .changes ≤ 8192
@@ -80,8 +80,8 @@ module _ (c : Code) (L : ℕ) (ts page : List ℕ) (lent : State) (o : Opens c p
   ]
 
   module _ (p : Progress) (e : p ≡ decoded c ts page) where
-    pub passed-ready : Ready c (p .state)
-    passed-ready = subst (λ (y : Progress). Ready c (y .state)) (sym e) passes-ready
+    pub passed-ready : highest (c .profile) ≤ 256 → Ready c (p .state)
+    passed-ready h = subst (λ (y : Progress). Ready c (y .state)) (sym e) (passes-ready h)
 
     -- in blocks of 1 no step is made
     pub one-corrected : L ≡ 1 → p ≡ corrected c L ts page
@@ -106,9 +106,9 @@ module _ (c : Code) (L : ℕ) (ts page : List ℕ) (lent : State) (o : Opens c p
       from-passed : x ≡ stepsTo c L (blockCount c L) st
       from-passed = f ∙ ap (λ (y : Progress). stepsTo c L (blockCount c L) (y .state)) e
 
-      pub stepped-ready : Ready c (x .state)
+      pub stepped-ready : highest (c .profile) ≤ 256 → Ready c (x .state)
       unfolding stepsTo
-      stepped-ready = subst (λ (y : Stepped). Ready c (y .state)) (sym from-passed) (steps-ready c L (blockCount c L) st passes-ready)
+      stepped-ready h = subst (λ (y : Stepped). Ready c (y .state)) (sym from-passed) (steps-ready c L (blockCount c L) st (passes-ready h))
 
       -- the changes, the steps included, fit
       pub stepped-few : p .tally .changes + x .steps ≤ 12288

@@ -1,18 +1,18 @@
 -- The run of passes on a list of one threshold is one pass.
 use mathlib.Core.Path.{_≡_, ap, _∙_}
 use mathlib.Core.List.{List, [], _∷_, append-nil}
-use Prim.Native.Nat.{ℕ, _+_}
+use Prim.Native.Nat.{ℕ, _+_, _≤_}
 use native.Mathlib.Omega.{arith}
 use Rattle.model.specs.Calls.{passedState, passedChanges}
-use Rattle.model.specs.Code.{Code, checksOf}
+use Rattle.model.specs.Code.{highest, Code, checksOf}
 use Rattle.model.specs.Decoder.{State, Visit, after, changeCount, pass, passes, allows, thresholdsRun, dataSymbols}
 use Rattle.theory.specs.Answers.{PassTaken, table-usable}
 use Rattle.passes.specs.Runs.{ran, passesFrom, runOf}
 use Rattle.visits.specs.Progress.{Progress, Ready}
 
 -- what a pass takes is what the run of passes works on
-pub taken-ready : (c : Code) (t : ℕ) (st : State) → PassTaken c t st → Ready c st
-taken-ready c t st p = record { usable = table-usable c (p .table); bytes = p .bytes; sized = p .sized }
+pub taken-ready : (c : Code) (t : ℕ) (st : State) → highest (c .profile) ≤ 256 → PassTaken c t st → Ready c st
+taken-ready c t st h p = record { usable = table-usable c (p .table); bytes = omega (arith, p .high); sized = p .sized }
 
 module _ (c : Code) (t : ℕ) (p x : Progress) (f : x ≡ runOf c (t ∷ []) p) where
   -- its visits are those of the pass

@@ -12,13 +12,13 @@ use lib.ListN.{length, take}
 use lib.Seq.{take-at}
 use borrow.Author.Tests.{lt-leb, le-ltb}
 use Rattle.model.specs.Calls.{Test, test, firstThatApplies, within, positionsFit, allBelow, branchesFit, runsFit, sizeTests, tableFits, tableTests, pageTests, thresholdTests, thresholdTest, blockTest, encodeFits, stateFits, decodeFits, tableAnswer, encodeTests, encodeAnswer, encodeOuterAnswer, decodeTests, decodeAnswer, decodeOuterAnswer, openAnswer, stateSymbols, passTests, passAnswer, explainAnswer}
-use Rattle.model.specs.Code.{Code, dataCount, checkCount, pageLength, checksEach, branchAt, checkSymbols, codeWord, dataOf, selfOrthogonal}
+use Rattle.model.specs.Code.{Code, lowest, highest, dataCount, checkCount, pageLength, checksEach, branchAt, checkSymbols, codeWord, dataOf, selfOrthogonal}
 use Rattle.model.specs.Decoder.{State}
 use Rattle.model.specs.Outer.{blockCount}
 use Rattle.model.specs.Demand.{Encodes}
 use Rattle.model.specs.Limits.{SizeLimits, Limits}
 use Rattle.model.specs.Symbols.{choose, Below}
-use Rattle.theory.specs.Codes.{Usable, ByteCode}
+use Rattle.theory.specs.Codes.{two-symbols, Usable, ByteCode}
 use Rattle.theory.specs.Counting.{is-true, eqb-yes}
 use Rattle.theory.specs.Steps.{SymbolsBelow, Sized}
 use Rattle.theory.specs.Tables.{fit-test, every-facts, every-make, orthogonal-test}
@@ -147,7 +147,7 @@ sized-facts c k b r =
 pub sizes-taken : (c : Code) → firstThatApplies (sizeTests c) ≡ 0 → SizeLimits c
 unfolding sizeTests
 sizes-taken c e =
-    let t1 = taken-by 0 (within 3 256 (c .q)) _ e in
+    let t1 = taken-by 0 (within (lowest (c .profile)) (highest (c .profile)) (c .q)) _ e in
     let t2 = taken-by 1 (within 1 4096 (c .k)) _ (t1 .1) in
     let t10 = taken-by 9 (branchesFit c) _ (t2 .1) in
     let t3 = taken-by 2 (runsFit c) _ (t10 .1) in
@@ -157,13 +157,13 @@ sizes-taken c e =
 pub table-accepted : (c : Code) → tableAnswer c ≡ 0 → Limits c × (selfOrthogonal c ≡ true)
 unfolding tableAnswer tableTests sizeTests
 table-accepted c e =
-    let t1 = taken-by 0 (within 3 256 (c .q)) _ e in
+    let t1 = taken-by 0 (within (lowest (c .profile)) (highest (c .profile)) (c .q)) _ e in
     let t2 = taken-by 1 (within 1 4096 (c .k)) _ (t1 .1) in
     let t10 = taken-by 9 (branchesFit c) _ (t2 .1) in
     let t3 = taken-by 2 (runsFit c) _ (t10 .1) in
     let t4 = taken-by 3 (tableFits c) _ (t3 .1) in
     let t5 = taken-by 4 (selfOrthogonal c) [] (t4 .1) in
-    let q = within-facts 3 256 (c .q) (t1 .0) in (
+    let q = within-facts (lowest (c .profile)) (highest (c .profile)) (c .q) (t1 .0) in (
       record {
         q-low = q .0;
         q-high = q .1;
@@ -180,7 +180,7 @@ pub table-accepts : (c : Code) → Limits c → selfOrthogonal c ≡ true → ta
 unfolding tableAnswer tableTests sizeTests
 table-accepts c l o =
     let t = l .table .sizes in
-    passed-by 1 (within 3 256 (c .q)) _ (within-make 3 256 (c .q) (l .q-low) (l .q-high))
+    passed-by 1 (within (lowest (c .profile)) (highest (c .profile)) (c .q)) _ (within-make (lowest (c .profile)) (highest (c .profile)) (c .q) (l .q-low) (l .q-high))
     ∙ passed-by 2 (within 1 4096 (c .k)) _ (within-make 1 4096 (c .k) (t .k-low) (t .k-high))
     ∙ passed-by 10 (branchesFit c) _
     (rw (within-make 1 8 (c .b) (t .b-low) (t .b-high)) (is-true (leb (dataCount c) 4096) (le→leb (dataCount c) 4096 (t .data-high))))
@@ -193,7 +193,7 @@ table-accepts c l o =
 pub table-usable : (c : Code) → tableAnswer c ≡ 0 → Usable c
 table-usable c e =
     let a = table-accepted c e in
-    record { q-low = omega (arith, a .0 .q-low); table = a .0 .table; orthogonal = orthogonal-test c .0 (a .1) }
+    record { q-low = omega (arith, two-symbols (c .profile), a .0 .q-low); table = a .0 .table; orthogonal = orthogonal-test c .0 (a .1) }
 
 -- ---- the calls that read symbols
 
@@ -228,11 +228,12 @@ page-taken c fits input e =
       limits = a .0;
       usable = table-usable c (t .0);
       buffers = b .0;
-      symbols = all-below (c .q) (omega (arith, a .0 .q-low)) input (taken-by 6 (allBelow (c .q) input) [] (b .1) .0);
+      symbols = all-below (c .q) (omega (arith, two-symbols (c .profile), a .0 .q-low)) input (taken-by 6 (allBelow (c .q) input) [] (b .1) .0);
     }
 
-pub page-bytes : (c : Code) (fits : Bool) (input : List ℕ) → PageFits c fits input → ByteCode c
-page-bytes c fits input f = record { q-low = f .usable .q-low; q-high = f .limits .q-high; table = f .limits .table }
+-- where the profile's symbols are bytes
+pub page-bytes : (c : Code) (fits : Bool) (input : List ℕ) → highest (c .profile) ≤ 256 → PageFits c fits input → ByteCode c
+page-bytes c fits input h f = record { q-low = f .usable .q-low; q-high = omega (arith, f .limits .q-high); table = f .limits .table }
 
 -- ---- encode
 
@@ -292,7 +293,7 @@ decode-passed c fits page ts e = passed-first (pageTests c fits page) (threshold
 -- what is opened: a page of symbols, whole, and three lent buffers of the right lengths
 pub record Opens (c : Code) (page : List ℕ) (lent : State) : Type 0 where
   pub usable : Usable c
-  pub bytes : c .q ≤ 256
+  pub high : c .q ≤ highest (c .profile)
   pub whole : SymbolsBelow (c .q) (pageLength c) page
   pub len-result : length (lent .result) ≡ dataCount c
   pub len-syndrome : length (lent .syndrome) ≡ checkCount c
@@ -327,7 +328,7 @@ opens-by c others page lent f =
     let n = state-lengths c lent (b .1) in
     record {
       usable = f .usable;
-      bytes = f .limits .q-high;
+      high = f .limits .q-high;
       whole = record { len = eqb-true (length page) (pageLength c) (b .0); low = f .symbols };
       len-result = n .result-length;
       len-syndrome = n .syndrome-length;
@@ -452,7 +453,7 @@ module _ (c : Code) (fits : Bool) (t : ℕ) (lent : State) (e : firstThatApplies
 -- what a pass takes: an accepted table, three buffers of symbols below q of the right lengths, a threshold of at most 32
 pub record PassTaken (c : Code) (t : ℕ) (lent : State) : Type 0 where
   pub table : tableAnswer c ≡ 0
-  pub bytes : c .q ≤ 256
+  pub high : c .q ≤ highest (c .profile)
   pub sized : Sized (c .q) (dataCount c) (checkCount c) lent
   pub small : t < 33
 
@@ -465,7 +466,7 @@ pass-taken c others t lent e =
     let seven = taken-by 6 (allBelow (c .q) (stateSymbols lent)) _ (six .1) in
     let nine = taken-by 8 (ltb t 33) [] (seven .1) in
     let a = table-accepted c (f .0) in
-    let pos : zero < c .q = omega (arith, a .0 .q-low) in
+    let pos : zero < c .q = omega (arith, two-symbols (c .profile), a .0 .q-low) in
     let o = and-true others (stateFits c lent) (six .0) in
     let n = state-lengths c lent (o .1) in
     let r = and-true (allBelow (c .q) (lent .result)) _ (sym (state-below (c .q) lent) ∙ seven .0) in
@@ -473,7 +474,7 @@ pass-taken c others t lent e =
       o .0,
       record {
         table = f .0;
-        bytes = a .0 .q-high;
+        high = a .0 .q-high;
         sized = record {
           len-result = n .result-length;
           len-syndrome = n .syndrome-length;

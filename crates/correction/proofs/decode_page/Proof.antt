@@ -64,7 +64,7 @@ run-requires c κs =
     let b = start o in
     let a = b .args in
     let code = codeBy (a .code) (a .positions .now) in (
-      subst (λ (st : State). Ready code st) (sym (o .open-page .ensures .0)) (opened-ready code (a .page .now) _ (b .pre .0 .opens)),
+      subst (λ (st : State). Ready code st) (sym (o .open-page .ensures .0)) (opened-ready code (a .page .now) _ (b .pre .0 .opens) (omega arith)),
       b .pre .0 .few,
       ap (λ (t : Tally). t .changes) (t .opened2 .ensures),
       b .pre .1,

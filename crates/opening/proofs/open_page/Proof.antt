@@ -33,7 +33,7 @@ copy-into-requires c κs =
 write-syndrome-requires : tie.Need-write-syndrome-requires
 write-syndrome-requires c κs =
     let b = start (c .before .before .before .before .before .before) in
-    (opens-bytes _ _ _ (b .pre), b .pre .whole, b .pre .len-syndrome)
+    (opens-bytes _ _ _ (b .pre) (omega arith), b .pre .whole, b .pre .len-syndrome)
 
 clear-requires : tie.Need-clear-requires
 clear-requires c κs = search needs

@@ -55,13 +55,13 @@ outer-steps-requires c κs =
     let two = c .before .before .before in
     let d = passes (two .before .before) in
     let b = start d in
-    (passed-ready (codeAt b) (b .args .block) _ _ _ (opens b) (passed d) (d .decode-page .ensures .0), b .pre .1 (two .if2 .taken))
+    (passed-ready (codeAt b) (b .args .block) _ _ _ (opens b) (passed d) (d .decode-page .ensures .0) (omega arith), b .pre .1 (two .if2 .taken))
 
 ready : (x : tie.After-outer-steps) → Ready (codeAt (start (before-steps x))) (stepped x .state)
 ready x =
     let d = before-steps x in
     let b = start d in
-    stepped-ready (codeAt b) _ _ _ _ (opens b) (passed d) (d .decode-page .ensures .0) (fits x) (stepped x) (x .outer-steps .ensures)
+    stepped-ready (codeAt b) _ _ _ _ (opens b) (passed d) (d .decode-page .ensures .0) (fits x) (stepped x) (x .outer-steps .ensures) (omega arith)
 
 clear-requires : tie.Need-clear-requires
 clear-requires c κs = search needs

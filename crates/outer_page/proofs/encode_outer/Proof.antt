@@ -9,7 +9,7 @@ use lib.Dec.{eqb}
 use lib.ListN.{length, drop}
 use lib.Seq.{length-take-le}
 use Rattle.model.specs.Calls.{firstThatApplies, pageTests, blockTest, encodeFits, encodeAnswer, encodeOuterAnswer, encodeOuterOutcome}
-use Rattle.model.specs.Code.{Code, codeOf, dataCount, pageLength}
+use Rattle.model.specs.Code.{highest, Code, codeOf, dataCount, pageLength}
 use Rattle.model.specs.Demand.{EncodesOuter}
 use Rattle.theory.specs.Answers.{BlockFits, and-true, eqb-true, page-taken, page-bytes, encode-symbols, encode-outer-taken}
 use Rattle.theory.specs.Codes.{Usable, ByteCode}
@@ -22,14 +22,14 @@ use Rattle.outer_page.proofs.encode_outer.Statement.{statement}
 use Rattle.outer_page.proofs.encode_outer.Tie as tie
 
 -- what it works on where it is not refused
-taken : (c : Code) (L : ℕ) (u : List ℕ) (n : ℕ) → encodeOuterAnswer c L u n ≡ 0
+taken : (c : Code) (L : ℕ) (u : List ℕ) (n : ℕ) → highest (c .profile) ≤ 256 → encodeOuterAnswer c L u n ≡ 0
     → Usable c × ByteCode c × BlockFits c L × SymbolsBelow (c .q) (dataCount c) u × (n ≡ pageLength c)
 unfolding encodeAnswer
-taken c L u n e =
+taken c L u n h e =
     let a = encode-outer-taken c L u n e in
     let p = page-taken c (encodeFits c (length u) n) u (a .0) in (
       p .usable,
-      page-bytes c (encodeFits c (length u) n) u p,
+      page-bytes c (encodeFits c (length u) n) u h p,
       a .1,
       encode-symbols c u n (a .0),
       eqb-true n (pageLength c) (and-true (eqb (length u) (dataCount c)) (eqb n (pageLength c)) (p .buffers) .1),
@@ -86,7 +86,7 @@ works : (c : tie.Else1)
     → let b = start (c .before) in
     Usable (code b) × ByteCode (code b) × BlockFits (code b) (b .args .block) × SymbolsBelow (b .args .q) (dataCount (code b)) (b .args .«data» .now)
     × (length (b .args .page .now) ≡ pageLength (code b))
-works c = let b = start (c .before) in taken (code b) (b .args .block) (b .args .«data» .now) (length (b .args .page .now)) (done c)
+works c = let b = start (c .before) in taken (code b) (b .args .block) (b .args .«data» .now) (length (b .args .page .now)) (omega arith) (done c)
 
 -- the data fits into the page
 room : (c : tie.Else1) → let b = start (c .before) in length (b .args .«data» .now) ≤ length (b .args .page .now)

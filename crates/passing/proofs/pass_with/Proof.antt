@@ -100,7 +100,7 @@ run-requires : tie.Need-run-requires
 run-requires c κs =
     let o = c .before .before .before .before .before .before in
     let e = o .before in (
-      taken-ready _ _ _ (taken e),
+      taken-ready _ _ _ (omega arith) (taken e),
       omega arith,
       ap (λ (t : Tally). t .changes) (o .opened .ensures),
       length-take-le _ _ (omega (arith, counted e, room e)) ∙ counted e,
