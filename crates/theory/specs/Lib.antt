@@ -25,6 +25,8 @@ pub mod Counters
 pub mod Integers
 pub mod OuterCheck
 pub mod Margins
+pub mod Profiles
+pub mod BitVote
 pub mod Statements
 pub mod InBlocks
 pub mod Turns
