@@ -30,4 +30,5 @@ pub mod BitVote
 pub mod Statements
 pub mod InBlocks
 pub mod Turns
+pub mod WideBytes
 pub mod Written
