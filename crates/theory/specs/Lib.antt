@@ -31,4 +31,5 @@ pub mod Statements
 pub mod InBlocks
 pub mod Turns
 pub mod WideBytes
+pub mod WideCalls
 pub mod Written

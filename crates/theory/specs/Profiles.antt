@@ -95,7 +95,7 @@ module _ (c : Code) (one : within (lowest (c .profile)) (highest (c .profile)) (
   no-one = left-out [] 1 (within (lowest (c .profile)) (highest (c .profile)) (c .q)) (laterTests c) one
 
   -- both, before any other tests
-  later : (fits : Bool) (input : List ℕ) → Below (c .q) input → (us : List Test)
+  pub later : (fits : Bool) (input : List ℕ) → Below (c .q) input → (us : List Test)
       → firstThatApplies (pageTests c fits input ++ us) ≡ firstThatApplies (laterTests c ++ (test 6 (not fits) ∷ us))
   unfolding pageTests tableTests sizeTests
   later fits input low us =

@@ -2,15 +2,15 @@
 use mathlib.Core.Path.{_≡_, refl, ap, sym, _∙_, subst}
 use mathlib.Core.Logic.{_≢_}
 use mathlib.Core.Bool.{Bool, true, false, _&&_}
-use mathlib.Core.List.{List, [], _∷_, _++_}
+use mathlib.Core.List.{List, [], _∷_, _++_, append-assoc}
 use Prim.Native.Nat.{ℕ, zero, suc, _+_, _*_, _/_, _%_, _^_, _≤_, _<_}
-use native.Mathlib.Nat.{pow-suc, pow-zero, zero-mul, suc-mul, mul-mod-left, mul-div-cancel, div-add-mod', div-one, div-div-eq-div-mul, pow-le-pow-right, zero-lt-suc, le-trans}
+use native.Mathlib.Nat.{pow-suc, pow-zero, zero-mul, suc-mul, zero-add, mul-mod-left, mul-div-cancel, div-add-mod', div-one, div-div-eq-div-mul, mul-le-mul-right, pow-le-pow-right, zero-lt-suc, le-trans}
 use native.Mathlib.Decide.{ℕ-discrete}
 use native.Mathlib.Omega.{arith}
 use lib.Arith.{digits-div}
 use lib.Dec.{eqb}
-use lib.ListN.{length, getD, take, drop, length-append, take-append-drop, length-take, length-drop}
-use lib.Seq.{take-at, drop-at, drop-drop, length-take-le, getD-drop}
+use lib.ListN.{length, getD, set, take, drop, length-append, take-append-drop, length-take, length-drop}
+use lib.Seq.{take-add, sets, sets-eq, length-sets, take-at, drop-at, drop-drop, length-take-le, getD-drop}
 use Rattle.model.specs.Bytes.{wordOf, positionAt, positionsOf, numberOf, bytesIn, symbolsOf, symbolBytes}
 use Rattle.model.specs.Symbols.{choose, tabulate, Below}
 use Rattle.theory.specs.Counting.{eqb-yes, eqb-no}
@@ -128,6 +128,45 @@ module _ (w : ℕ) (pos : 0 < w) where
 
   pub bytes-of-symbols : (n : ℕ) (s : List ℕ) → Below 256 s → length s ≡ n * w → symbolBytes w (symbolsOf w s) ≡ s
   bytes-of-symbols n s low e = ap (symbolBytes w) (symbols-whole n s e) ∙ bytes-first n s low e
+
+  -- ---- one symbol of many
+
+  pub symbol-at : (n : ℕ) (s : List ℕ) → length s ≡ n * w → (i : ℕ) → i < n → getD (symbolsOf w s) i 0 ≡ numberOf (take w (drop (i * w) s))
+  unfolding firstOf
+  symbol-at n s e i h = ap (λ (l : List ℕ). getD l i 0) (symbols-whole n s e) ∙ getD-tabulate n (λ l. numberOf (take w (drop (l * w) s))) i h
+
+  written-first : (n i : ℕ) (s bs : List ℕ) → i < n → length s ≡ n * w → length bs ≡ w
+      → firstOf n w (take (i * w) s ++ bs ++ drop (i * w + w) s) ≡ set (firstOf n w s) i (numberOf bs)
+  written-first zero i s bs h e l = absurd (omega arith)
+  written-first (suc n) zero s bs h e l =
+      ap (firstOf (suc n) w) (let z : take (0 * w) s ++ bs ++ drop (0 * w + w) s ≡ bs ++ drop w s = rw (zero-mul w, zero-add w) refl in z)
+      ∙ first-cons n w (bs ++ drop w s)
+      ∙ rw (take-at bs (drop w s) w l, drop-at bs (drop w s) w l) (sym (ap (λ (v : List ℕ). set v 0 (numberOf bs)) (first-cons n w s)))
+  written-first (suc n) (suc i) s bs h e l =
+      let room : w ≤ length s = omega (arith, suc-mul n w) in
+      let rest : List ℕ = take (i * w) (drop w s) ++ bs ++ drop (i * w + w) (drop w s) in
+      let a : take (suc i * w) s ≡ take w s ++ take (i * w) (drop w s) = ap (λ (m : ℕ). take m s) (let z : suc i * w ≡ w + i * w = omega arith in z) ∙ take-add w (i * w) s in
+      let b : drop (suc i * w + w) s ≡ drop (i * w + w) (drop w s) =
+      ap (λ (m : ℕ). drop m s) (let z : suc i * w + w ≡ w + (i * w + w) = omega arith in z) ∙ sym (drop-drop (i * w + w) w s) in
+      let whole : take (suc i * w) s ++ bs ++ drop (suc i * w + w) s ≡ take w s ++ rest =
+      rw (a, b) (ap (λ (v : List ℕ). v ++ drop (i * w + w) (drop w s)) (append-assoc (take w s) (take (i * w) (drop w s)) bs)
+      ∙ append-assoc (take w s) (take (i * w) (drop w s) ++ bs) (drop (i * w + w) (drop w s))) in
+      ap (firstOf (suc n) w) whole
+      ∙ first-cons n w (take w s ++ rest)
+      ∙ rw (take-at (take w s) rest w (length-take-le w s room), drop-at (take w s) rest w (length-take-le w s room),
+      written-first n i (drop w s) bs (omega arith) (length-drop w s ∙ omega (arith, suc-mul n w)) l)
+      (sym (ap (λ (v : List ℕ). set v (suc i) (numberOf bs)) (first-cons n w s)))
+
+  -- a store of its bytes is a store of the symbol
+  pub symbol-set : (n : ℕ) (s : List ℕ) → length s ≡ n * w → (i x : ℕ) → i < n → x < 256 ^ w → symbolsOf w (sets s (i * w) (bytesIn w x)) ≡ set (symbolsOf w s) i x
+  symbol-set n s e i x h low =
+      let bs : List ℕ = bytesIn w x in
+      let sized = bytes-length w x in
+      let room : i * w + w ≤ length s = omega (arith, mul-le-mul-right w (let z : suc i ≤ n = omega arith in z), suc-mul i w) in
+      symbols-whole n (sets s (i * w) bs) (length-sets s (i * w) bs ∙ e)
+      ∙ ap (firstOf n w) (sets-eq bs s (i * w) (omega (arith, sized)) ∙ ap (λ (m : ℕ). take (i * w) s ++ bs ++ drop (i * w + m) s) sized)
+      ∙ written-first n i s bs h e sized
+      ∙ rw (symbols-whole n s e, number-back w x low) refl
 
 -- ---- the range
 
