@@ -27,9 +27,9 @@ pub mod OuterCheck
 pub mod Margins
 pub mod Profiles
 pub mod BitVote
+pub mod WideBytes
+pub mod WideCalls
 pub mod Statements
 pub mod InBlocks
 pub mod Turns
-pub mod WideBytes
-pub mod WideCalls
 pub mod Written

@@ -1,26 +1,28 @@
 -- The statements that a reviewer reads. Their proofs stand in the other files.
 use mathlib.Core.Path.{_≡_, refl, ap, sym, _∙_, subst}
 use mathlib.Core.Logic.{_≢_, _↔_}
-use mathlib.Core.Bool.{Bool, true, false, _&&_}
+use mathlib.Core.Bool.{Bool, true, false, not, _&&_}
 use mathlib.Core.List.{List, [], _∷_, _++_, map}
 use Prim.Native.Nat.{ℕ, suc, _+_, _-_, _*_, _/_, _%_, _^_, _≤_, _<_}
 use native.Mathlib.Nat.{one-mul, mul-le-mul-left}
 use native.Mathlib.Omega.{arith}
+use lib.Bits.{bitXor}
 use lib.Count.{ones}
-use lib.Dec.{eqb}
+use lib.Dec.{eqb, ltb}
 use lib.IntN.{ℤ, pos, negℤ, _-ℤ_}
 use lib.ListN.{length, getD, length-map}
 use lib.Signed.{_≤ℤ_}
-use Rattle.model.specs.Bytes.{wordOf, cDecodeOutcome, cDecodeCountersOutcome, cPassOutcome}
-use Rattle.model.specs.Calls.{firstThatApplies, countersFit, stateFits, decodeFits, tableAnswer, encodeOuterAnswer, decodeAnswer, decodeOuterAnswer, openAnswer, passAnswer, explainAnswer, outcome, decodeOutcome, decodeCountersOutcome, openOutcome, Passed, passedState, passedChanges, passOutcome, PassCall, fitting, called, afterCalls, callChanges, notRefused, callRun}
-use Rattle.model.specs.Code.{Code, codeOf, dataCount, checkCount, pageLength, checksEach, checksBy, checksOf, checkSumBy, checkSymbol, checkSymbols, codeWord, dataOf, receivedChecks, SelfOrthogonal, differencesBy, differences, allDifferent}
-use Rattle.model.specs.Decoder.{State, Visit, estimates, change, changes, visit, after, changeCount, passes, dataSymbols, opened, passesOf, run, distanceTo, Counts, decodedState, decodedCounts, marginsOf, pass, isIdle, none, thresholdsRun, firstSmaller, stateWeight}
+use Rattle.model.specs.Bytes.{wordOf, cDecodeOutcome, cDecodeCountersOutcome, cPassOutcome, symbolsOf, symbolBytes}
+use Rattle.model.specs.Calls.{test, firstThatApplies, within, pageTests, thresholdTests, thresholdTest, stateSymbols, explained, countersFit, stateFits, decodeFits, tableAnswer, encodeOuterAnswer, decodeAnswer, decodeOuterAnswer, openAnswer, passAnswer, explainAnswer, outcome, decodeOutcome, decodeCountersOutcome, openOutcome, Passed, passedState, passedChanges, passOutcome, PassCall, fitting, called, afterCalls, callChanges, notRefused, callRun}
+use Rattle.model.specs.Code.{Profile, lowest, highest, Code, codeOf, dataCount, checkCount, pageLength, checksEach, checksBy, checksOf, checkSumBy, checkSymbol, checkSymbols, codeWord, syndrome, dataOf, receivedChecks, SelfOrthogonal, differencesBy, differences, allDifferent}
+use Rattle.model.specs.Decoder.{State, Visit, estimates, isChange, change, changes, visit, after, changeCount, passes, dataSymbols, opened, passesOf, run, distanceTo, Counts, decodedState, decodedCounts, marginsOf, pass, isIdle, none, thresholdsRun, firstSmaller, stateWeight}
 use Rattle.model.specs.Demand.{VisitFalls, Falls, RunFalls, DecodeFalls, PassFalls, Recovers, DecodeRecovers, smallest, EncodesOuter, OuterFalls, OuterRecovers}
 use Rattle.model.specs.Limits.{TableLimits, Limits}
 use Rattle.model.specs.Outer.{blockSum, blockCount, outerWord, reliabilityOf, leastBelow, weakest, outerSteps, stepCount, outerState, outerCounts}
-use Rattle.model.specs.Symbols.{choose, same, count, tabulate, addEach, subEach, Below}
-use Rattle.model.specs.Vote.{leader, leadCount, nextCount, votes, votesRead, counted, margin, ground, equalBits}
+use Rattle.model.specs.Symbols.{choose, add, sub, same, count, tabulate, addEach, subEach, Below}
+use Rattle.model.specs.Vote.{leader, leadCount, nextCount, votes, votesRead, counted, margin, ground, equalBits, gathered, zerosIn, onesDecide, bitVotes}
 use Rattle.theory.specs.Answers.{table-accepted, table-accepts, table-usable, Opens, Taken, decode-taken, decode-opens, open-taken, pass-taken, explain-takes, explain-taken, BlockFits, encode-outer-taken, encode-symbols, encode-takes, encoded-data, decode-outer-taken}
+use Rattle.theory.specs.BitVote.{add-bits, sub-bits, turned-over, word-ones, word-zeros, vote-bits, change-bits, margin-bits, equal-bits, visit-bits}
 use Rattle.theory.specs.Branches.{orthogonal-differences}
 use Rattle.theory.specs.Codes.{code-incidence, check-symbol, check-symbols}
 use Rattle.theory.specs.Counting.{eqb-yes, eqb-no, All, length-symbolsAt, count-misses}
@@ -35,11 +37,14 @@ use Rattle.theory.specs.Moments.{result-is, syndrome-is, changes-few, we
 use Rattle.theory.specs.OneBranch.{firstTests, run-all, checks-all, check-all, differences-all, answer-all}
 use Rattle.theory.specs.OuterCheck.{zero-no-step, one-no-step, no-steps, clean-no-step, weakest-least, steps-on, step-adds, steps-few, outer-other, outer-symbols, outer-keeps}
 use Rattle.theory.specs.PassCalls.{calls-made, takenOf, calls-taken, taken-all, all-small}
+use Rattle.theory.specs.Profiles.{inProfile, laterTests, word-in, syndrome-in, opened-in, decoded-in, counts-in, margins-in, passed-in, changes-in, explained-in, table-in, no-one, page-later, decode-later, pass-later, explain-later, wraps}
 use Rattle.theory.specs.Runs.{range-pass, range-passes, symbols-range, symbols-visited}
 use Rattle.theory.specs.Schedule.{smallest-in, smallest-least, runs-few, runs-of, smallest-run, followed, minima}
 use Rattle.theory.specs.Steps.{checkSum, SymbolsBelow, Sized}
 use Rattle.theory.specs.Tables.{orthogonal-test}
 use Rattle.theory.specs.Voting.{leader-ahead, lead-max, next-max, next-least, leader-mem}
+use Rattle.theory.specs.WideBytes.{symbols-back, bytes-of-symbols, symbols-below, fits-bytes}
+use Rattle.theory.specs.WideCalls.{Wide}
 
 -- ---- 1. the table check and the code
 
@@ -565,3 +570,118 @@ module _ (c : Code) (L : ℕ) (others : Bool) (page thresholds : List ℕ) (lent
         },
         omega arith,
       )
+
+-- ---- 11. profiles (N9, N10)
+
+-- A profile says which q a call takes, and no more. Parts 1 to 10 hold of a code of any profile. What a code encodes, opens, decodes, passes and
+-- explains is what the code of the same q, k, b and table does in any other profile, so on bits it is the general steps at q = 2; and of the
+-- tests of a table test 1 alone differs.
+pub record InProfile (p : Profile) (c : Code) : Type 0 where
+  pub word : (u : List ℕ) → codeWord (inProfile p c) u ≡ codeWord c u
+  pub syndrome-of : (page : List ℕ) → syndrome (inProfile p c) page ≡ syndrome c page
+  pub opened-page : (page : List ℕ) → opened (inProfile p c) page ≡ opened c page
+  pub decoded : (thresholds page : List ℕ) → decodedState (inProfile p c) thresholds page ≡ decodedState c thresholds page
+  pub counts : (thresholds page : List ℕ) → decodedCounts (inProfile p c) thresholds page ≡ decodedCounts c thresholds page
+  pub margins : (st : State) → marginsOf (inProfile p c) st ≡ marginsOf c st
+  pub passed : (threshold : ℕ) (st : State) → passedState (inProfile p c) threshold st ≡ passedState c threshold st
+  pub changed : (threshold : ℕ) (st : State) → passedChanges (inProfile p c) threshold st ≡ passedChanges c threshold st
+  pub told : (threshold j : ℕ) (st : State) → explained (inProfile p c) threshold j st ≡ explained c threshold j st
+  pub answer : tableAnswer (inProfile p c) ≡ choose (within (lowest p) (highest p) (c .q)) (firstThatApplies (laterTests c)) 1
+
+pub in-profile : (p : Profile) (c : Code) → InProfile p c
+in-profile p c = record {
+  word = word-in p c;
+  syndrome-of = syndrome-in p c;
+  opened-page = opened-in p c;
+  decoded = decoded-in p c;
+  counts = counts-in p c;
+  margins = margins-in p c;
+  passed = passed-in p c;
+  changed = changes-in p c;
+  told = explained-in p c;
+  answer = table-in p c;
+}
+
+-- ---- 12. the vote on bits (N9)
+
+-- Of bits, gathered in a word of as many bits: its ones are the estimates that are 1, and the rest those that are 0. They tell the whole vote, h0 being
+-- 1 where the ones are more and 0 in a tie; the margin, zeros minus ones; the estimates that equal h0, which are the word or the rest of its bits;
+-- and whether a visit is a change, "when ones minus zeros is above T".
+pub record BitsVote (es : List ℕ) : Type 0 where
+  pub ones-are : ones (gathered es) ≡ count 1 es
+  pub zeros-are : zerosIn (length es) (gathered es) ≡ count 0 es
+  pub few : gathered es < 2 ^ length es
+  pub vote : votes es ≡ bitVotes (length es) (gathered es)
+  pub margin-is : margin es ≡ pos (zerosIn (length es) (gathered es)) -ℤ pos (ones (gathered es))
+  pub equal : equalBits es (leader es) ≡ choose (eqb (leader es) 1) (gathered es) (2 ^ length es - 1 - gathered es)
+  pub decides : (t : ℕ) → isChange t es ≡ onesDecide t (length es) (gathered es)
+
+pub bits-vote : (es : List ℕ) → Below 2 es → 0 < length es → BitsVote es
+bits-vote es low some = record {
+  ones-are = word-ones es low;
+  zeros-are = word-zeros es low;
+  few = bits-below es 1;
+  vote = vote-bits es low some;
+  margin-is = margin-bits es low some;
+  equal = equal-bits es low some;
+  decides = change-bits es low some;
+}
+
+-- So a visit on bits changes where the ones decide so, and then turns over result symbol j, d(j) and s at each check of j: it subtracts 1, and modulo 2
+-- sums and differences are the exclusive or.
+pub bits-visit : (checks : ℕ → List ℕ) (v : Visit) (st : State) → let es = estimates (checks (v .symbol)) (v .symbol) st in Below 2 es
+    → visit 2 checks v st ≡ choose (onesDecide (v .threshold) (length es) (gathered es)) (change 2 (checks (v .symbol)) (v .symbol) 1 st) st
+bits-visit checks v st low = visit-bits checks v st low
+
+pub record BitsAdd (a b : ℕ) : Type 0 where
+  pub sum : add 2 a b ≡ bitXor a b
+  pub difference : sub 2 a b ≡ bitXor a b
+  pub turned : sub 2 a 1 ≡ 1 - a
+
+pub bits-add : (a b : ℕ) → a < 2 → b < 2 → BitsAdd a b
+bits-add a b ha hb = record { sum = add-bits a b ha hb; difference = sub-bits a b ha hb; turned = turned-over a ha }
+
+-- ---- 13. wide symbols (N10)
+
+-- "sums and differences simply wrap at the symbol's width": a sum that wraps at q is that modulo q, and a difference that wraps is the one number below q
+-- that with b wraps to a; for every q.
+pub record Wraps (q a b : ℕ) : Type 0 where
+  pub sum : (a + b) % q ≡ add q a b
+  pub difference : (r : ℕ) → r < q → (r + b) % q ≡ a → r ≡ sub q a b
+
+pub wraps-at : (q a b : ℕ) → a < q → b < q → Wraps q a b
+unfolding add
+wraps-at q a b ha hb = record { sum = refl; difference = (λ r h e. wraps q (omega arith) a b r ha (omega arith) h e) }
+
+-- "1 and 7 can't occur here": the number is that of the other tests, where the symbols are below q, as all numbers of their width are. The tests of
+-- encode, syndrome and open (`page`, by the lengths that each needs), of decode, of a pass and of explain.
+pub record WideAnswers (c : Code) : Type 0 where
+  pub table : tableAnswer c ≡ firstThatApplies (laterTests c)
+  pub page : (fits : Bool) (input : List ℕ) → Below (c .q) input → firstThatApplies (pageTests c fits input) ≡ firstThatApplies (laterTests c ++ (test 6 (not fits) ∷ []))
+  pub decode : (fits : Bool) (page thresholds : List ℕ) → Below (c .q) page
+      → decodeAnswer c fits page thresholds ≡ firstThatApplies (laterTests c ++ (test 6 (not fits) ∷ thresholdTests thresholds))
+  pub pass : (fits : Bool) (threshold : ℕ) (st : State) → Below (c .q) (stateSymbols st)
+      → passAnswer c fits threshold st ≡ firstThatApplies (laterTests c ++ (test 6 (not fits) ∷ thresholdTest threshold))
+  pub explain : (fits : Bool) (threshold j : ℕ) (st : State) → Below (c .q) (stateSymbols st)
+      → explainAnswer c fits threshold j st
+      ≡ firstThatApplies (laterTests c ++ (test 6 (not fits) ∷ test 9 (not (ltb threshold 33)) ∷ test 11 (not (ltb j (dataCount c))) ∷ []))
+
+pub wide-answers : (c : Code) → Wide c → WideAnswers c
+wide-answers c w = record {
+  table = no-one c (w .one);
+  page = page-later c (w .one);
+  decode = decode-later c (w .one);
+  pass = pass-later c (w .one);
+  explain = (λ fits t j st low. explain-later c (w .one) fits t st low j);
+}
+
+-- Symbols of w bytes each, low byte first: what is written reads back, either way; what is read is below 256 to the w; a length in symbols fits where the
+-- length in bytes is w times as many, and no other does. WideCalls has each C call on them.
+pub record WideSymbols (w : ℕ) : Type 0 where
+  pub read-back : (xs : List ℕ) → Below (256 ^ w) xs → symbolsOf w (symbolBytes w xs) ≡ xs
+  pub written-back : (n : ℕ) (s : List ℕ) → Below 256 s → length s ≡ n * w → symbolBytes w (symbolsOf w s) ≡ s
+  pub low : (s : List ℕ) → Below 256 s → Below (256 ^ w) (symbolsOf w s)
+  pub fits : (n : ℕ) → 0 < n → (s : List ℕ) → eqb (length (symbolsOf w s)) n ≡ eqb (length s) (n * w)
+
+pub wide-symbols : (w : ℕ) → 0 < w → WideSymbols w
+wide-symbols w h = record { read-back = symbols-back w h; written-back = bytes-of-symbols w h; low = symbols-below w; fits = fits-bytes w h }
