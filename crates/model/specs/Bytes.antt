@@ -7,7 +7,7 @@ use lib.Dec.{eqb}
 use lib.IntN.{ℤ, pos, negsuc}
 use lib.ListN.{length, getD, take, drop}
 use Rattle.model.specs.Symbols.{choose, tabulate}
-use Rattle.model.specs.Code.{Profile, bytes, bits, words16, words32, Code, dataCount}
+use Rattle.model.specs.Code.{Profile, bytePages, bitPages, wide16, wide32, Code, dataCount}
 use Rattle.model.specs.Outer.{outerState, outerCounts}
 use Rattle.model.specs.Decoder.{State, stateBy, Counts, decodedState, decodedCounts, marginsOf}
 use Rattle.model.specs.Calls.{Outcome, outcome, encodeOutcome, syndromeOutcome, openOutcome, Decoded, WithCounters, countersFit, Passed, stateFits, decodeFits, decodeAnswer, decodeOuterAnswer, passAnswer, passedState, passedChanges, Explained, explained, explainAnswer}
@@ -82,10 +82,10 @@ cExplainOutcome c threshold j read answer =
 
 -- the bytes of a symbol
 abbrev pub symbolSize : Profile → ℕ
-symbolSize bytes = 1
-symbolSize bits = 1
-symbolSize words16 = 2
-symbolSize words32 = 4
+symbolSize bytePages = 1
+symbolSize bitPages = 1
+symbolSize wide16 = 2
+symbolSize wide32 = 4
 
 -- the number that bytes stand for, low byte first
 unfoldable pub numberOf : List ℕ → ℕ

@@ -9,23 +9,23 @@ use Rattle.model.specs.Symbols.{choose, sub, count, sumOver, sumBelow, t
 
 -- the sizes of alphabet that a group of calls takes: symbols of a byte, "A profile for bit pages" (N9), "Two-byte and four-byte symbols" (N10)
 pub data Profile : Type 0 where
-  bytes : Profile
-  bits : Profile
-  words16 : Profile
-  words32 : Profile
+  bytePages : Profile
+  bitPages : Profile
+  wide16 : Profile
+  wide32 : Profile
 
 -- the smallest and the largest: q from 3 to 256; "In this profile q is 2" (N9); "Support q = 65,536 and q = 4,294,967,296" (N10)
 abbrev pub lowest : Profile → ℕ
-lowest bytes = 3
-lowest bits = 2
-lowest words16 = 65536
-lowest words32 = 4294967296
+lowest bytePages = 3
+lowest bitPages = 2
+lowest wide16 = 65536
+lowest wide32 = 4294967296
 
 abbrev pub highest : Profile → ℕ
-highest bytes = 256
-highest bits = 2
-highest words16 = 65536
-highest words32 = 4294967296
+highest bytePages = 256
+highest bitPages = 2
+highest wide16 = 65536
+highest wide32 = 4294967296
 
 -- "q is the alphabet size"; "A code may have b data branches of k symbols each, with k checks for all of them.
 -- The table holds b runs of J positions" (N2): the positions of all runs, one run after the other. The profile matters to test 1 alone
@@ -42,7 +42,7 @@ codeIn profile q k b positions = record { profile = profile; q = q; k = k; b = b
 
 -- of the calls on bytes
 abbrev pub codeOf : ℕ → ℕ → ℕ → List ℕ → Code
-codeOf q k b positions = codeIn bytes q k b positions
+codeOf q k b positions = codeIn bytePages q k b positions
 
 -- of the calls on wide symbols, which have no q: the profile has one
 abbrev pub wideCode : Profile → ℕ → ℕ → List ℕ → Code

@@ -3,17 +3,20 @@
 use mathlib.Core.Path.{_≡_, refl, ap, subst, _∙_}
 use mathlib.Core.Bool.{Bool, true, false}
 use mathlib.Core.List.{List, [], _∷_, _++_, map}
-use Prim.Native.Nat.{ℕ, _+_, _%_, _<_}
+use Prim.Native.Nat.{ℕ, _+_, _*_, _%_, _<_}
 use native.Mathlib.Nat.{mod-eq-of-lt}
 use native.Mathlib.Omega.{arith}
+use lib.Count.{onesIn, ones}
 use lib.Dec.{T}
 use lib.IntN.{ℤ, pos, negsuc}
+use lib.ListN.{length}
 use Rattle.model.specs.Symbols.{sub, same, differ, count, distance, sumOver, sumBelow, joinBelow, tabulate, symbolsAt, subtractAt}
-use Rattle.model.specs.Code.{Code, codeOf, dataCount, checkCount, pageLength, branchAt, checksBy, checksOf, checkSumBy, checkSymbol, checkSymbols, codeWord, syndrome, shared, everyBelow, selfOrthogonal, differencesFrom, differencesBy, differences, allDifferent}
-use Rattle.model.specs.Vote.{firstBy, otherBy, leader, leadCount, nextCount, Votes, votes, votesBy, counted, votesRead, margin, ground, equalBits}
+use Rattle.model.specs.Code.{bitPages, wide16, wide32, Code, codeIn, codeOf, wideCode, dataCount, checkCount, pageLength, branchAt, checksBy, checksOf, checkSumBy, checkSymbol, checkSymbols, codeWord, syndrome, shared, everyBelow, selfOrthogonal, differencesFrom, differencesBy, differences, allDifferent}
+use Rattle.model.specs.Vote.{firstBy, otherBy, leader, leadCount, nextCount, Votes, votes, votesBy, counted, votesRead, margin, ground, equalBits, gathered, onesDecide, bitVotes}
 use Rattle.model.specs.Decoder.{stateBy, State, Counts, estimates, isChange, change, changes, visit, after, changeCount, pass, passes, allows, thresholdsRun, opened, passesOf, run, distanceTo, decodedState, decodedCounts, marginsOf}
 use Rattle.model.specs.Outer.{partSum, outerWord, reliability, leastBelow, weakest, isStep, outerStep, outerSteps, stepCount, outerState, outerCounts}
-use Rattle.model.specs.Calls.{firstThatApplies, within, positionsFit, allBelow, sizeTests, tableTests, pageTests, thresholdTests, thresholdTest, tableAnswer, encodeAnswer, decodeAnswer, openAnswer, passTests, passAnswer, explainAnswer, Outcome, outcome, encodeOutcome, Decoded, decodeOutcome, WithCounters, countersFit, decodeCountersOutcome, blockTest, encodeOuterAnswer, decodeOuterAnswer, encodeOuterOutcome, decodeOuterOutcome, openOutcome, Passed, passOutcome, PassCall, fitting, afterCalls, callChanges, notRefused, Explained, explained, explainOutcome}
+use Rattle.model.specs.Calls.{firstThatApplies, within, syndromeAnswer, syndromeOutcome, positionsFit, allBelow, sizeTests, tableTests, pageTests, thresholdTests, thresholdTest, tableAnswer, encodeAnswer, decodeAnswer, openAnswer, passTests, passAnswer, explainAnswer, Outcome, outcome, encodeOutcome, Decoded, decodeOutcome, WithCounters, countersFit, decodeCountersOutcome, blockTest, encodeOuterAnswer, decodeOuterAnswer, encodeOuterOutcome, decodeOuterOutcome, openOutcome, Passed, passOutcome, PassCall, fitting, afterCalls, callChanges, notRefused, Explained, explained, explainOutcome}
+use Rattle.model.specs.Bytes.{bytesOf, marginBytes, cDecodeOutcome, cPassOutcome, explainedBytes, cExplainOutcome, symbolSize, numberOf, bytesIn, symbolsOf, symbolBytes, inBytes, wideEncodeOutcome, wideSyndromeOutcome, wideDecodeOutcome, wideOpenOutcome, widePassOutcome, wideExplainOutcome}
 use Rattle.model.specs.Demand.{VisitFalls, WithinBound, smallest, DecodeRecovers}
 
 -- A row: a call's inputs, and what it must give.
@@ -43,6 +46,15 @@ data Row : Type 0 where
   countedBy : (n : ℕ) (es : List ℕ) (counters : List ℕ) (given : Votes) → Row
   -- the vote over a list of estimates, its margin, and whether it is a change at a threshold
   voted : (es : List ℕ) (threshold : ℕ) (given : Votes) (margin : ℤ) (changed : Bool) → Row
+  -- the word of bits, the vote by its ones, and whether they decide for a change
+  votedBits : (es : List ℕ) (threshold word : ℕ) (given : Votes) (changed : Bool) → Row
+  -- the C forms on wide symbols: encode from a page of this many bytes; syndrome; decode; open; a pass; explain
+  wideEncoded : (c : Code) (u : List ℕ) (pageLen : ℕ) (given : Outcome (List ℕ)) → Row
+  wideSyndrome : (c : Code) (page : List ℕ) (given : Outcome (List ℕ)) → Row
+  wideDecoded : (c : Code) (thresholds page : List ℕ) (given : Outcome (Decoded (List ℕ) (List ℕ))) → Row
+  wideOpening : (c : Code) (page : List ℕ) (given : Outcome State) → Row
+  widePassing : (c : Code) (threshold : ℕ) (found : State) (given : Outcome (Passed (List ℕ))) → Row
+  wideExplaining : (c : Code) (threshold j : ℕ) (found : State) (given : Outcome (List ℕ)) → Row
 
 times : ℕ → ℕ → List ℕ
 times n x = tabulate n (λ i. x)
@@ -57,6 +69,10 @@ lent n = times n 165
 abbrev lentState : Code → State
 lentState c = stateBy (lent (dataCount c)) (lent (checkCount c)) (lent (dataCount c))
 
+-- of wide symbols, as bytes
+abbrev lentBytes : Code → State
+lentBytes c = let w = symbolSize (c .profile) in stateBy (lent (dataCount c * w)) (lent (checkCount c * w)) (lent (dataCount c * w))
+
 -- the row with what the definitions give for its inputs
 computed : Row → Row
 unfolding firstThatApplies within positionsFit allBelow sizeTests tableTests pageTests thresholdTests thresholdTest tableAnswer encodeAnswer decodeAnswer openAnswer passTests passAnswer explainAnswer
@@ -64,6 +80,8 @@ unfolding firstThatApplies within positionsFit allBelow sizeTests tableTests pag
     branchAt checksBy checksOf checkSumBy checkSymbol checkSymbols codeWord syndrome shared everyBelow selfOrthogonal differencesFrom differencesBy allDifferent
     firstBy otherBy leader leadCount nextCount estimates isChange change changes visit after changeCount pass passes allows thresholdsRun opened passesOf run distanceTo decodedState decodedCounts margin marginsOf
     counted votesBy votesRead partSum outerWord reliability leastBelow weakest isStep outerStep outerSteps stepCount outerState outerCounts
+    onesIn ones onesDecide bitVotes syndromeAnswer syndromeOutcome bytesOf marginBytes cDecodeOutcome cPassOutcome explainedBytes cExplainOutcome numberOf bytesIn symbolsOf symbolBytes inBytes
+    wideEncodeOutcome wideSyndromeOutcome wideDecodeOutcome wideOpenOutcome widePassOutcome wideExplainOutcome
     sub same differ count distance sumOver sumBelow joinBelow tabulate symbolsAt subtractAt times
 computed (table c a d) = table c (tableAnswer c) (allDifferent (differences c))
 computed (encoded c u g) = encoded c u (encodeOutcome c u (lent (pageLength c)))
@@ -80,6 +98,13 @@ computed (encodedOuter c L u g) = encodedOuter c L u (encodeOuterOutcome c L u (
 computed (decodedOuter c L ts page g) = decodedOuter c L ts page (decodeOuterOutcome c L page ts (lentState c) (map pos (lent (dataCount c))))
 computed (countedBy n es counters g) = countedBy n es (counted n es) (votesRead (counted n es) es)
 computed (voted es t g m b) = voted es t (votes es) (margin es) (isChange t es)
+computed (votedBits es t w g b) = votedBits es t (gathered es) (bitVotes (length es) (gathered es)) (onesDecide t (length es) (gathered es))
+computed (wideEncoded c u n g) = wideEncoded c u n (wideEncodeOutcome c u (lent n))
+computed (wideSyndrome c page g) = wideSyndrome c page (wideSyndromeOutcome c page (lentBytes c .syndrome))
+computed (wideDecoded c ts page g) = wideDecoded c ts page (wideDecodeOutcome c page ts (lentBytes c) (lent (4 * dataCount c)) (lent 16))
+computed (wideOpening c page g) = wideOpening c page (wideOpenOutcome c page (lentBytes c))
+computed (widePassing c t st g) = widePassing c t st (widePassOutcome c t st (lent 4))
+computed (wideExplaining c t j st g) = wideExplaining c t j st (wideExplainOutcome c t j st (lent 24))
 
 -- a code of one branch, as document 01 has them
 abbrev oneBranch : ℕ → ℕ → List ℕ → Code
@@ -295,6 +320,105 @@ misreadings =
 told-apart : map computed misreadings ≡ misreadings
 unfolding computed misreadings
 told-apart = refl
+
+-- ---- bits and wide symbols (N9, N10)
+
+-- code A on bits, and the page whose data symbol 0 is received 1: opened, and what a pass with threshold 2 leaves of it
+bitsA : ℕ → Code
+bitsA q = codeIn bitPages q 13 1 (0 ∷ 1 ∷ 4 ∷ 6 ∷ [])
+
+openedBit : State
+openedBit = stateBy (1 ∷ zeros 12) (1 ∷ 1 ∷ 0 ∷ 0 ∷ 1 ∷ 0 ∷ 1 ∷ zeros 6) (zeros 13)
+
+passedBit : State
+passedBit = stateBy (zeros 13) (zeros 13) (1 ∷ zeros 12)
+
+-- code A on symbols of two and of four bytes; k = 3 with positions 0, 1, and k = 1, on those of two
+wideA16 : Code
+wideA16 = wideCode wide16 13 1 (0 ∷ 1 ∷ 4 ∷ 6 ∷ [])
+
+wideA32 : Code
+wideA32 = wideCode wide32 13 1 (0 ∷ 1 ∷ 4 ∷ 6 ∷ [])
+
+wideThree : Code
+wideThree = wideCode wide16 3 1 (0 ∷ 1 ∷ [])
+
+-- its page with data symbol 0 received 256, opened, and what a pass with threshold 0 leaves of it: d(0) is 65,280
+openedWide : State
+openedWide = stateBy (0 ∷ 1 ∷ zeros 4) (0 ∷ 1 ∷ 0 ∷ 1 ∷ 0 ∷ 0 ∷ []) (zeros 6)
+
+passedWide : State
+passedWide = stateBy (zeros 6) (zeros 6) (0 ∷ 255 ∷ zeros 4)
+
+-- four bytes of a number below 256
+word : ℕ → List ℕ
+word n = n ∷ 0 ∷ 0 ∷ 0 ∷ []
+
+inProfiles : List Row
+unfolding bitsA openedBit passedBit wideA16 wideA32 wideThree openedWide passedWide word accepted found made told vote times tabulate
+inProfiles =
+    -- N9: "Here 1 refuses all but q = 2", which the calls on bytes refuse (case 11)
+    table (bitsA 2) 0 true
+    ∷ table (bitsA 1) 1 true
+    ∷ table (bitsA 3) 1 true
+    ∷ table (oneBranch 2 13 (0 ∷ 1 ∷ 4 ∷ 6 ∷ [])) 1 true
+    -- u(0) and u(12) are 1, and both are in check 0; a 2 is refused
+    ∷ encoded (bitsA 2) (1 ∷ zeros 11 ++ (1 ∷ [])) (accepted (1 ∷ zeros 11 ++ (1 ∷ 0 ∷ 1 ∷ 0 ∷ 1 ∷ 1 ∷ 1 ∷ 1 ∷ zeros 5 ++ (1 ∷ []))))
+    ∷ encoded (bitsA 2) (2 ∷ zeros 12) (record { number = 7; left = lent 26 })
+    -- four ones against one zero: a change at 2, none at 3
+    ∷ votedBits (1 ∷ 1 ∷ 0 ∷ 1 ∷ 1 ∷ []) 2 27 (vote 1 4 1 1) true
+    ∷ votedBits (1 ∷ 1 ∷ 0 ∷ 1 ∷ 1 ∷ []) 3 27 (vote 1 4 1 1) false
+    -- a tie, in which 0 is h0; zeros that lead; ones alone
+    ∷ votedBits (1 ∷ 0 ∷ 1 ∷ 0 ∷ []) 0 5 (vote 0 2 2 2) false
+    ∷ voted (1 ∷ 0 ∷ 1 ∷ 0 ∷ []) 0 (vote 0 2 2 2) (pos 0) false
+    ∷ votedBits (0 ∷ 1 ∷ 0 ∷ 0 ∷ []) 0 2 (vote 0 3 1 3) false
+    ∷ votedBits (times 5 1) 4 31 (vote 1 5 0 0) true
+    ∷ votedBits (times 5 1) 5 31 (vote 1 5 0 0) false
+    -- cases 6 and 7 on bits: data symbol 0 is received 1
+    ∷ decoded (bitsA 2) (2 ∷ 2 ∷ []) (1 ∷ zeros 25) (found (zeros 13) (zeros 13) (1 ∷ zeros 12) (map pos (3 ∷ times 12 5)) 2 1 4 1)
+    ∷ decoded (bitsA 2) (3 ∷ 2 ∷ []) (1 ∷ zeros 25) (found (zeros 13) (zeros 13) (1 ∷ zeros 12) (map pos (3 ∷ times 12 5)) 2 1 4 1)
+    -- data symbols 0 and 1 are received 1: in check 1, which both have, the errors cancel, so the distance is 6 and not 7
+    ∷ decoded (bitsA 2) (0 ∷ 0 ∷ []) (1 ∷ 1 ∷ zeros 24) (found (zeros 13) (zeros 13) (1 ∷ 1 ∷ zeros 11) (map pos (3 ∷ 3 ∷ times 11 5)) 2 2 6 2)
+    ∷ opening (bitsA 2) (1 ∷ zeros 25) (record { number = 0; left = openedBit })
+    ∷ passing (bitsA 2) true 2 openedBit (made 0 passedBit 1)
+    ∷ passing (bitsA 3) true 2 openedBit (made 1 openedBit 0)
+    ∷ explaining (bitsA 2) true 2 0 openedBit (told 0 3 1 4 1 30)
+    ∷ explaining (bitsA 2) true 2 12 openedBit (told 0 2 0 4 1 27)
+    -- N10: tests 2 and 5, with no q to test
+    ∷ table wideA16 0 true
+    ∷ table (wideCode wide16 12 1 (0 ∷ 1 ∷ 4 ∷ 6 ∷ [])) 5 false
+    ∷ table (wideCode wide32 4097 1 (0 ∷ 1 ∷ 4 ∷ 6 ∷ [])) 2 true
+    -- case 5 on wide symbols: 10 and 65,530 wrap to 4 in check 0; so do 10 and 4,294,967,290
+    ∷ encoded wideA16 (10 ∷ zeros 11 ++ (65530 ∷ []))
+    (accepted (10 ∷ zeros 11 ++ (65530 ∷ 4 ∷ 10 ∷ 0 ∷ 65530 ∷ 10 ∷ 65530 ∷ 10 ∷ zeros 5 ++ (65530 ∷ []))))
+    ∷ encoded wideA32 (10 ∷ zeros 11 ++ (4294967290 ∷ []))
+    (accepted (10 ∷ zeros 11 ++ (4294967290 ∷ 4 ∷ 10 ∷ 0 ∷ 4294967290 ∷ 10 ∷ 4294967290 ∷ 10 ∷ zeros 5 ++ (4294967290 ∷ []))))
+    -- case 6: d(0) is 0 − 7; case 8: s(2) is 0 − 9
+    ∷ decoded wideA16 (2 ∷ 2 ∷ []) (7 ∷ zeros 25) (found (zeros 13) (zeros 13) (65529 ∷ zeros 12) (map pos (3 ∷ times 12 5)) 2 1 4 1)
+    ∷ decoded wideA32 (2 ∷ 2 ∷ []) (7 ∷ zeros 25) (found (zeros 13) (zeros 13) (4294967289 ∷ zeros 12) (map pos (3 ∷ times 12 5)) 2 1 4 1)
+    ∷ decoded wideA16 (0 ∷ []) (zeros 15 ++ (9 ∷ zeros 10)) (found (zeros 13) (0 ∷ 0 ∷ 65527 ∷ zeros 10) (zeros 13)
+    (map pos (5 ∷ 3 ∷ 3 ∷ 5 ∷ 5 ∷ 5 ∷ 5 ∷ 5 ∷ 5 ∷ 3 ∷ 5 ∷ 3 ∷ 5 ∷ [])) 1 0 1 1)
+    -- in C: a symbol is two bytes or four, low byte first; a byte too few or too many is 6, in what is read and in what is lent
+    ∷ wideEncoded (wideCode wide16 1 1 (0 ∷ [])) (52 ∷ 18 ∷ []) 4 (accepted (52 ∷ 18 ∷ 52 ∷ 18 ∷ []))
+    ∷ wideEncoded (wideCode wide32 1 1 (0 ∷ [])) (1 ∷ 2 ∷ 3 ∷ 4 ∷ []) 8 (accepted (1 ∷ 2 ∷ 3 ∷ 4 ∷ 1 ∷ 2 ∷ 3 ∷ 4 ∷ []))
+    ∷ wideEncoded (wideCode wide16 1 1 (0 ∷ [])) (52 ∷ []) 4 (record { number = 6; left = lent 4 })
+    ∷ wideEncoded (wideCode wide16 1 1 (0 ∷ [])) (52 ∷ 18 ∷ []) 5 (record { number = 6; left = lent 5 })
+    -- the low byte first: 255, 0 and 1, 0 sum to 0, 1
+    ∷ wideEncoded wideThree (255 ∷ 0 ∷ 0 ∷ 0 ∷ 1 ∷ 0 ∷ []) 12 (accepted (255 ∷ 0 ∷ 0 ∷ 0 ∷ 1 ∷ 0 ∷ 0 ∷ 1 ∷ 255 ∷ 0 ∷ 1 ∷ 0 ∷ []))
+    -- data symbol 0 is received 256: s(0) and s(1) are 256, the lead 2 − 1 is above 0, and d(0) becomes 65,280
+    ∷ wideSyndrome wideThree (0 ∷ 1 ∷ zeros 10) (accepted (0 ∷ 1 ∷ 0 ∷ 1 ∷ 0 ∷ 0 ∷ []))
+    ∷ wideOpening wideThree (0 ∷ 1 ∷ zeros 10) (record { number = 0; left = openedWide })
+    ∷ widePassing wideThree 0 openedWide (record { number = 0; left = record { state = passedWide; changes = word 1 } })
+    ∷ wideExplaining wideThree 0 0 openedWide (accepted (word 3 ++ (0 ∷ 1 ∷ 0 ∷ 0 ∷ word 2 ++ (word 1 ++ (word 6 ++ word 0)))))
+    ∷ wideDecoded wideThree (0 ∷ 0 ∷ []) (0 ∷ 1 ∷ zeros 10)
+    (record { number = 0; left = record { state = passedWide; margins = word 1 ++ (word 3 ++ word 3); counts = word 2 ++ (word 1 ++ (word 2 ++ word 1)) } })
+    ∷ wideDecoded wideThree (0 ∷ 0 ∷ []) (0 ∷ 1 ∷ zeros 9)
+    (record { number = 6; left = record { state = lentBytes wideThree; margins = lent 12; counts = lent 16 } })
+    ∷ []
+
+in-profiles : map computed inProfiles ≡ inProfiles
+unfolding computed inProfiles
+in-profiles = refl
 
 -- ---- the numbers of demand 3
 

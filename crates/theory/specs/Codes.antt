@@ -5,7 +5,7 @@ use Prim.Native.Nat.{ℕ, _/_, _%_, _≤_, _<_}
 use native.Mathlib.Nat.{mod-lt}
 use native.Mathlib.Omega.{arith}
 use lib.ListN.{getD}
-use Rattle.model.specs.Code.{Profile, bytes, bits, words16, words32, lowest, Code, dataCount, checkCount, checksEach, branchAt, checksOf, checkSymbol, checkSymbols, codeWord, dataOf, receivedChecks, syndrome, shared, SelfOrthogonal}
+use Rattle.model.specs.Code.{Profile, bytePages, bitPages, wide16, wide32, lowest, Code, dataCount, checkCount, checksEach, branchAt, checksOf, checkSymbol, checkSymbols, codeWord, dataOf, receivedChecks, syndrome, shared, SelfOrthogonal}
 use Rattle.model.specs.Decoder.{opened}
 use Rattle.model.specs.Limits.{TableLimits}
 use Rattle.model.specs.Symbols.{sub, tabulate}
@@ -18,10 +18,10 @@ use Rattle.theory.specs.Steps.{checkSum}
 
 -- an alphabet has at least two symbols, whatever the profile
 pub two-symbols : (p : Profile) → 2 ≤ lowest p
-two-symbols bytes = omega arith
-two-symbols bits = omega arith
-two-symbols words16 = omega arith
-two-symbols words32 = omega arith
+two-symbols bytePages = omega arith
+two-symbols bitPages = omega arith
+two-symbols wide16 = omega arith
+two-symbols wide32 = omega arith
 
 -- what the theorems, and the functions below the calls, ask of a code. The limits of q that its profile has stand in the tests alone.
 pub record Usable (c : Code) : Type 0 where

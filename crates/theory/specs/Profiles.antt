@@ -8,7 +8,7 @@ use native.Mathlib.Omega.{arith}
 use lib.Dec.{ltb}
 use lib.ListN.{length}
 use Rattle.model.specs.Calls.{Test, test, firstThatApplies, within, allBelow, branchesFit, runsFit, tableFits, sizeTests, tableTests, pageTests, thresholdTests, thresholdTest, tableAnswer, decodeAnswer, stateSymbols, passTests, passAnswer, explainAnswer, passedState, passedChanges, Explained, explained}
-use Rattle.model.specs.Code.{Profile, bytes, bits, words16, words32, lowest, highest, Code, codeIn, wideCode, dataCount, branchAt, checksOf, checkSymbol, checkSymbols, codeWord, syndrome, shared, selfOrthogonal}
+use Rattle.model.specs.Code.{Profile, lowest, highest, Code, codeIn, dataCount, branchAt, checksOf, checkSymbol, checkSymbols, codeWord, syndrome, shared, selfOrthogonal}
 use Rattle.model.specs.Decoder.{State, Counts, opened, passesOf, run, distanceTo, decodedState, decodedCounts, marginsOf}
 use Rattle.model.specs.Symbols.{choose, sub, Below}
 use Rattle.theory.specs.Answers.{within-make, all-below, below-all, state-below}

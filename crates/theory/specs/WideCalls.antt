@@ -10,7 +10,7 @@ use lib.Dec.{eqb, ltb}
 use lib.ListN.{length}
 use Rattle.model.specs.Bytes.{wordOf, bytesOf, marginBytes, explainedBytes, cDecodeOutcome, cPassOutcome, cExplainOutcome, symbolSize, symbolsOf, symbolBytes, stateRead, stateWritten, inBytes, wideEncodeOutcome, wideSyndromeOutcome, wideDecodeOutcome, wideOpenOutcome, widePassOutcome, wideExplainOutcome}
 use Rattle.model.specs.Calls.{Test, test, firstThatApplies, within, pageTests, tableTests, thresholdTests, thresholdTest, encodeFits, syndromeFits, stateFits, decodeFits, tableAnswer, encodeAnswer, syndromeAnswer, decodeAnswer, openAnswer, stateSymbols, passTests, passAnswer, explainAnswer, Outcome, outcome, encodeOutcome, syndromeOutcome, openOutcome, Decoded, Passed, passedState, passedChanges, explained}
-use Rattle.model.specs.Code.{Profile, words16, words32, lowest, highest, Code, wideCode, dataCount, checkCount, pageLength, codeWord, syndrome}
+use Rattle.model.specs.Code.{Profile, wide16, wide32, lowest, highest, Code, wideCode, dataCount, checkCount, pageLength, codeWord, syndrome}
 use Rattle.model.specs.Decoder.{State, opened, decodedState, decodedCounts, marginsOf}
 use Rattle.model.specs.Symbols.{choose, Below}
 use Rattle.theory.specs.Answers.{refused-first, table-usable}
@@ -24,11 +24,11 @@ pub record Wide (c : Code) : Type 0 where
   pub values : c .q ≡ 256 ^ symbolSize (c .profile)
   pub some : 0 < symbolSize (c .profile)
 
-pub wide-16 : (k b : ℕ) (ps : List ℕ) → Wide (wideCode words16 k b ps)
+pub wide-16 : (k b : ℕ) (ps : List ℕ) → Wide (wideCode wide16 k b ps)
 unfolding within
 wide-16 k b ps = record { one = refl; values = refl; some = omega arith }
 
-pub wide-32 : (k b : ℕ) (ps : List ℕ) → Wide (wideCode words32 k b ps)
+pub wide-32 : (k b : ℕ) (ps : List ℕ) → Wide (wideCode wide32 k b ps)
 unfolding within
 wide-32 k b ps = record { one = refl; values = refl; some = omega arith }
 
