@@ -70,6 +70,16 @@ unfolding count
 no-others [] low v h = refl
 no-others (e ∷ es) low v h = omega (arith, same-no v e (λ x. absurd (omega (arith, low 0))), no-others es (λ i. low (suc i)) v h)
 
+-- the word, gathered from the last estimate on
+one-itself : (e : ℕ) → e < 2 → same e 1 ≡ e
+unfolding same
+one-itself zero h = refl
+one-itself (suc zero) h = refl
+one-itself (suc (suc e)) h = absurd (omega arith)
+
+pub gathered-cons : (e : ℕ) (es : List ℕ) → e < 2 → gathered (e ∷ es) ≡ gathered es * 2 + e
+gathered-cons e es h = bits-cons e es 1 ∙ ap (λ (n : ℕ). gathered es * 2 + n) (one-itself e h)
+
 -- the bits that are 0 are the rest of the word
 pub zero-bits : (es : List ℕ) → Below 2 es → equalBits es 0 + gathered es + 1 ≡ 2 ^ length es
 zero-bits [] low = omega (arith, bits-nil 0, bits-nil 1)
