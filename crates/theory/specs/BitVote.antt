@@ -10,13 +10,13 @@ use native.Mathlib.Omega.{arith}
 use lib.Bits.{bitXor}
 use lib.Count.{ones}
 use lib.Dec.{T, eqb, ltb, lt→ltb, ltb→lt}
-use lib.IntN.{ℤ, pos, _-ℤ_}
-use lib.ListN.{length, getD}
+use lib.IntN.{pos, _-ℤ_}
+use lib.ListN.{length}
 use Rattle.model.specs.Decoder.{State, Visit, estimates, isChange, change, changes, visit}
 use Rattle.model.specs.Symbols.{choose, bit, add, sub, same, count, Below}
-use Rattle.model.specs.Vote.{Votes, votes, leader, leadCount, nextCount, otherCount, margin, equalBits, gathered, zerosIn, onesDecide, bitVotes}
-use Rattle.theory.specs.Counting.{is-true, is-false, eqb-yes, eqb-no, same-yes, same-no, same-sym}
-use Rattle.theory.specs.Explaining.{bits-cons, bits-nil, bits-ones, bits-below}
+use Rattle.model.specs.Vote.{votes, leader, leadCount, nextCount, margin, equalBits, gathered, zerosIn, onesDecide, bitVotes}
+use Rattle.theory.specs.Counting.{is-true, is-false, same-no, same-sym}
+use Rattle.theory.specs.Explaining.{bits-cons, bits-nil, bits-ones}
 use Rattle.theory.specs.Falling.{isChange-facts}
 use Rattle.theory.specs.Margins.{other-zero}
 use Rattle.theory.specs.Voting.{leader-ahead, leader-below, lead-max, next-max, next-least}
@@ -171,10 +171,10 @@ module _ (es : List ℕ) (low : Below 2 es) where
     unfolding isChange onesDecide
     change-bits t = rw (word-zeros, word-ones) (elim (decLt (count 0 es) (count 1 es))
         as (λ o. (ltb t (leadCount es - nextCount es) && not (eqb (leader es) 0)) ≡ ltb t (count 1 es - count 0 es)) [
-      | yes h ↦ rw (counts-one h .0, counts-one h .1, leader-one h) (and-right (ltb t (count 1 es - count 0 es)))
-      | no n ↦ rw (leader-zero (omega arith), is-false (ltb t (count 1 es - count 0 es)) (λ w. absurd (omega (arith, ltb→lt t (count 1 es - count 0 es) w))))
-          (and-false (ltb t (leadCount es - nextCount es)))
-    ])
+          | yes h ↦ rw (counts-one h .0, counts-one h .1, leader-one h) (and-right (ltb t (count 1 es - count 0 es)))
+          | no n ↦ rw (leader-zero (omega arith), is-false (ltb t (count 1 es - count 0 es)) (λ w. absurd (omega (arith, ltb→lt t (count 1 es - count 0 es) w))))
+              (and-false (ltb t (leadCount es - nextCount es)))
+        ])
       where
         and-right : (b : Bool) → (b && true) ≡ b
         and-right true = refl

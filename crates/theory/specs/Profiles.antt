@@ -1,15 +1,14 @@
 -- What a code's profile matters to: test 1, and with it nothing else. Wide symbols, whose profile has one q, meet neither test 1 nor test 7.
 use mathlib.Core.Path.{_≡_, refl, ap, sym, _∙_}
-use mathlib.Core.Bool.{Bool, true, false, not, _&&_}
+use mathlib.Core.Bool.{Bool, true, false, not}
 use mathlib.Core.List.{List, [], _∷_, _++_, append-nil, append-assoc}
 use Prim.Native.Nat.{ℕ, _+_, _%_, _≤_, _<_}
 use native.Mathlib.Nat.{mod-eq-of-lt}
 use native.Mathlib.Omega.{arith}
 use lib.Dec.{ltb}
-use lib.ListN.{length}
-use Rattle.model.specs.Calls.{Test, test, firstThatApplies, within, allBelow, branchesFit, runsFit, tableFits, sizeTests, tableTests, pageTests, thresholdTests, thresholdTest, tableAnswer, decodeAnswer, stateSymbols, passTests, passAnswer, explainAnswer, passedState, passedChanges, Explained, explained}
+use Rattle.model.specs.Calls.{Test, test, firstThatApplies, within, allBelow, branchesFit, runsFit, tableFits, sizeTests, tableTests, pageTests, thresholdTests, thresholdTest, tableAnswer, decodeAnswer, stateSymbols, passTests, passAnswer, explainAnswer, passedState, passedChanges, explained}
 use Rattle.model.specs.Code.{Profile, lowest, highest, Code, codeIn, dataCount, branchAt, checksOf, checkSymbol, checkSymbols, codeWord, syndrome, shared, selfOrthogonal}
-use Rattle.model.specs.Decoder.{State, Counts, opened, passesOf, run, distanceTo, decodedState, decodedCounts, marginsOf}
+use Rattle.model.specs.Decoder.{State, opened, passesOf, run, distanceTo, decodedState, decodedCounts, marginsOf}
 use Rattle.model.specs.Symbols.{choose, sub, Below}
 use Rattle.theory.specs.Answers.{within-make, all-below, below-all, state-below}
 use Rattle.theory.specs.Modulo.{sub-unique}

@@ -1,13 +1,11 @@
 -- Wide symbols as bytes: what is written reads back, and what is read is as long as the bytes and below 256 to the number of a symbol's bytes.
 use mathlib.Core.Path.{_≡_, refl, ap, sym, _∙_, subst}
-use mathlib.Core.Logic.{_≢_}
-use mathlib.Core.Bool.{Bool, true, false, _&&_}
+use mathlib.Core.Bool.{Bool, true, false}
 use mathlib.Core.List.{List, [], _∷_, _++_, append-assoc}
 use Prim.Native.Nat.{ℕ, zero, suc, _+_, _*_, _/_, _%_, _^_, _≤_, _<_}
-use native.Mathlib.Nat.{pow-suc, pow-zero, zero-mul, suc-mul, zero-add, mul-mod-left, mul-div-cancel, div-add-mod', div-one, div-div-eq-div-mul, mul-le-mul-right, pow-le-pow-right, zero-lt-suc, le-trans}
+use native.Mathlib.Nat.{pow-suc, pow-zero, zero-mul, suc-mul, zero-add, mul-mod-left, mul-div-cancel, div-add-mod', div-div-eq-div-mul, mul-le-mul-right, pow-le-pow-right, zero-lt-suc, le-trans}
 use native.Mathlib.Decide.{ℕ-discrete}
 use native.Mathlib.Omega.{arith}
-use lib.Arith.{digits-div}
 use lib.Dec.{eqb}
 use lib.ListN.{length, getD, set, take, drop, length-append, take-append-drop, length-take, length-drop}
 use lib.Seq.{take-add, sets, sets-eq, length-sets, take-at, drop-at, drop-drop, length-take-le, getD-drop}
@@ -100,8 +98,12 @@ module _ (w : ℕ) (pos : 0 < w) where
   first-back [] low = first-none w []
   first-back (x ∷ xs) low =
       first-cons (length xs) w (bytesIn w x ++ symbolBytes w xs)
-      ∙ rw (take-at (bytesIn w x) (symbolBytes w xs) w (bytes-length w x), drop-at (bytesIn w x) (symbolBytes w xs) w (bytes-length w x), number-back w x (low 0),
-      first-back xs (λ i. low (suc i))) refl
+      ∙ rw (
+        take-at (bytesIn w x) (symbolBytes w xs) w (bytes-length w x),
+        drop-at (bytesIn w x) (symbolBytes w xs) w (bytes-length w x),
+        number-back w x (low 0),
+        first-back xs (λ i. low (suc i)),
+      ) refl
 
   pub symbols-back : (xs : List ℕ) → Below (256 ^ w) xs → symbolsOf w (symbolBytes w xs) ≡ xs
   symbols-back xs low = symbols-whole (length xs) (symbolBytes w xs) (written-length xs) ∙ first-back xs low
@@ -153,8 +155,11 @@ module _ (w : ℕ) (pos : 0 < w) where
       ∙ append-assoc (take w s) (take (i * w) (drop w s) ++ bs) (drop (i * w + w) (drop w s))) in
       ap (firstOf (suc n) w) whole
       ∙ first-cons n w (take w s ++ rest)
-      ∙ rw (take-at (take w s) rest w (length-take-le w s room), drop-at (take w s) rest w (length-take-le w s room),
-      written-first n i (drop w s) bs (omega arith) (length-drop w s ∙ omega (arith, suc-mul n w)) l)
+      ∙ rw (
+        take-at (take w s) rest w (length-take-le w s room),
+        drop-at (take w s) rest w (length-take-le w s room),
+        written-first n i (drop w s) bs (omega arith) (length-drop w s ∙ omega (arith, suc-mul n w)) l,
+      )
       (sym (ap (λ (v : List ℕ). set v (suc i) (numberOf bs)) (first-cons n w s)))
 
   -- a store of its bytes is a store of the symbol

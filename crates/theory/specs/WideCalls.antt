@@ -2,15 +2,15 @@
 use mathlib.Core.Path.{_≡_, refl, ap, sym, _∙_, subst}
 use mathlib.Core.Bool.{Bool, true, false, not, _&&_}
 use mathlib.Core.List.{List, [], _∷_, _++_, append-nil, append-assoc}
-use Prim.Native.Nat.{ℕ, _+_, _*_, _^_, _≤_, _<_}
+use Prim.Native.Nat.{ℕ, _+_, _*_, _^_, _<_}
 use native.Mathlib.Nat.{mul-le-mul}
 use native.Mathlib.Decide.{ℕ-discrete}
 use native.Mathlib.Omega.{arith}
 use lib.Dec.{eqb, ltb}
 use lib.ListN.{length}
 use Rattle.model.specs.Bytes.{wordOf, bytesOf, marginBytes, explainedBytes, cDecodeOutcome, cPassOutcome, cExplainOutcome, symbolSize, symbolsOf, symbolBytes, stateRead, stateWritten, inBytes, wideEncodeOutcome, wideSyndromeOutcome, wideDecodeOutcome, wideOpenOutcome, widePassOutcome, wideExplainOutcome}
-use Rattle.model.specs.Calls.{Test, test, firstThatApplies, within, pageTests, tableTests, thresholdTests, thresholdTest, encodeFits, syndromeFits, stateFits, decodeFits, tableAnswer, encodeAnswer, syndromeAnswer, decodeAnswer, openAnswer, stateSymbols, passTests, passAnswer, explainAnswer, Outcome, outcome, encodeOutcome, syndromeOutcome, openOutcome, Decoded, Passed, passedState, passedChanges, explained}
-use Rattle.model.specs.Code.{Profile, wide16, wide32, lowest, highest, Code, wideCode, dataCount, checkCount, pageLength, codeWord, syndrome}
+use Rattle.model.specs.Calls.{Test, test, firstThatApplies, within, pageTests, tableTests, thresholdTests, thresholdTest, stateFits, decodeFits, tableAnswer, encodeAnswer, syndromeAnswer, decodeAnswer, openAnswer, stateSymbols, passTests, passAnswer, explainAnswer, outcome, encodeOutcome, syndromeOutcome, openOutcome, Decoded, Passed, passedState, passedChanges, explained}
+use Rattle.model.specs.Code.{wide16, wide32, lowest, highest, Code, wideCode, dataCount, checkCount, pageLength, codeWord, syndrome}
 use Rattle.model.specs.Decoder.{State, opened, decodedState, decodedCounts, marginsOf}
 use Rattle.model.specs.Symbols.{choose, Below}
 use Rattle.theory.specs.Answers.{refused-first, table-usable}
