@@ -41,6 +41,7 @@ pub fn decode_counters(
         q,
         k: k as usize,
         b: b as usize,
+        bits: false,
     };
     let fit = answers::counters_fit(counters);
     let mut positions = [0u16; 256];

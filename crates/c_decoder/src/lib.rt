@@ -38,6 +38,7 @@ pub fn decode(
         q,
         k: k as usize,
         b: b as usize,
+        bits: false,
     };
     if table.len() <= 64 {
         let mut few = [0u16; 32];

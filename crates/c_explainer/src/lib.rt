@@ -28,6 +28,7 @@ fn explain_into(
         q: code.q,
         k: code.k,
         b: code.b,
+        bits: code.bits,
     };
     let others = answer.len() == 24;
     let told = explainer::explain_with(
@@ -75,6 +76,7 @@ pub fn explain(
         q,
         k: k as usize,
         b: b as usize,
+        bits: false,
     };
     if table.len() <= 64 {
         let mut few = [0u16; 32];

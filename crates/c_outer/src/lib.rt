@@ -41,6 +41,7 @@ pub fn decode_outer(
         q,
         k: k as usize,
         b: b as usize,
+        bits: false,
     };
     let length = blocks::length_of(block);
     let mut none = [0u8; 0];

@@ -35,6 +35,7 @@ fn pass_into(
         q: code.q,
         k: code.k,
         b: code.b,
+        bits: code.bits,
     };
     let others = changes.len() == 4;
     let passed = passing::pass_with(
@@ -121,6 +122,7 @@ pub fn pass(
         q,
         k: k as usize,
         b: b as usize,
+        bits: false,
     };
     if table.len() <= 64 {
         let mut few = [0u16; 32];

@@ -43,6 +43,7 @@ pub fn decode_blocks(
         q,
         k: k as usize,
         b: b as usize,
+        bits: false,
     };
     if params::data_count(code) <= 128 {
         let mut few = [0u8; 128];

@@ -105,6 +105,7 @@ pub fn explain(
         q,
         k: k as usize,
         b: b as usize,
+        bits: false,
     };
     explain_with(
         true,

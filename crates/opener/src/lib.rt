@@ -23,6 +23,7 @@ pub fn open(
         q,
         k: k as usize,
         b: b as usize,
+        bits: false,
     };
     let n = params::data_count(code);
     let fits = answers::decode_fits(

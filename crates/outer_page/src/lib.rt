@@ -73,6 +73,7 @@ pub fn encode_outer(
         q,
         k: k as usize,
         b: b as usize,
+        bits: false,
     };
     let n = params::data_count(code);
     let fits = answers::two_fit(data.len(), n, page.len(), n + code.k);

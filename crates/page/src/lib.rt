@@ -15,6 +15,7 @@ pub fn encode(q: u32, k: u32, b: u32, positions: &[u16], data: &[u8], page: &mut
         q,
         k: k as usize,
         b: b as usize,
+        bits: false,
     };
     let n = params::data_count(code);
     let fits = answers::two_fit(data.len(), n, page.len(), n + code.k);
@@ -39,6 +40,7 @@ pub fn syndrome(q: u32, k: u32, b: u32, positions: &[u16], page: &[u8], s: &mut 
         q,
         k: k as usize,
         b: b as usize,
+        bits: false,
     };
     let n = params::data_count(code);
     let fits = answers::two_fit(page.len(), n + code.k, s.len(), code.k);

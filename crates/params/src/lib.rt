@@ -2,11 +2,12 @@
 ghost use mathlib.Core.Path.{_≡_};
 ghost use Prim.Native.Nat.{_*_, _/_, _%_, _≤_};
 
-// "q is the alphabet size"; "b data branches of k symbols each, with k checks for all of them".
+// "q is the alphabet size"; "b data branches of k symbols each, with k checks for all of them"; and whether the profile is that of bit pages.
 pub struct Params {
     pub q: u32,
     pub k: usize,
     pub b: usize,
+    pub bits: bool,
 }
 
 // A term where a number is odd, else 0.

@@ -104,6 +104,7 @@ pub fn pass(
         q,
         k: k as usize,
         b: b as usize,
+        bits: false,
     };
     if params::data_count(code) <= 128 {
         let mut few = [0u8; 128];

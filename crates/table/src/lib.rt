@@ -6,10 +6,10 @@ ghost use mathlib.Core.List.{List};
 ghost use Prim.Native.Nat.{ℕ, _+_, _<_, _≤_};
 ghost use lib.ListN.{length, getD};
 ghost use Rattle.model.specs.Symbols.{same};
-ghost use Rattle.model.specs.Code.{codeOf, selfOrthogonal, differences, allDifferent};
+ghost use Rattle.model.specs.Code.{lowest, highest, codeOf, selfOrthogonal, differences, allDifferent};
 ghost use Rattle.model.specs.Calls.{firstThatApplies, within, positionsFit, branchesFit, runsFit, sizeTests, tableFits, tableAnswer};
 ghost use Rattle.model.specs.Limits.{SizeLimits, TableLimits};
-ghost use Rattle.params.specs.Codes.{codeBy};
+ghost use Rattle.params.specs.Codes.{profileOf, codeBy};
 ghost use Rattle.table.specs.Marks.{marksOf, mark};
 ghost use Rattle.table.specs.Folded.{fold, foldedFrom, foldedBy};
 
@@ -178,11 +178,21 @@ fn runs_fit(code: Params, positions: &[u16]) -> bool
     within(1, 32, each)
 }
 
+// q is one of the profile's: from 3 to 256, on bit pages 2.
+fn q_fits(code: Params) -> bool
+    ensures { λ r. ⌜ r ≡ within (lowest (profileOf (code .bits))) (highest (profileOf (code .bits))) (code .q) ⌝ }
+{
+    if code.bits {
+        return within(2, 2, code.q as usize);
+    }
+    within(3, 256, code.q as usize)
+}
+
 // Tests 1, 2, 10 and 3: q, k, the branches and the number of positions.
 fn sizes_answer(code: Params, positions: &[u16]) -> u32
     ensures { λ r. ⌜ r ≡ firstThatApplies (sizeTests (codeBy code (now (positions .entry)))) ⌝ }
 {
-    if !within(3, 256, code.q as usize) {
+    if !q_fits(code) {
         return 1;
     }
     if !within(1, 4096, code.k) {
@@ -222,6 +232,7 @@ pub fn check_table(q: u32, k: u32, b: u32, positions: &[u16]) -> u32
         q,
         k: k as usize,
         b: b as usize,
+        bits: false,
     };
     table_answer(code, positions)
 }

@@ -5,7 +5,7 @@ use mathlib.Core.Bool.{Bool}
 use native.Mathlib.Omega.{arith}
 use lib.Seq.{length-take-le}
 use Rattle.model.specs.Bytes.{positionsOf, cDecodeOutcome, cDecodeCountersOutcome}
-use Rattle.model.specs.Code.{codeOf}
+use Rattle.model.specs.Code.{bytePages, codeOf}
 use Rattle.model.specs.Decoder.{stateBy}
 use Rattle.octets.specs.Reads.{decode-read}
 use Rattle.theory.specs.Counters.{clear-made, fit-clear}
@@ -64,7 +64,7 @@ returns c =
     let lent = stateBy (a .result .now) (a .syndrome .now) (a .difference .now) in
     let e = d .decode-into .ensures in
     let done = c-decode-done code (f .counters-fit .result) (a .page .now) (a .thresholds .now) lent (a .margins .now) (a .counts .now) _ _
-    (e .0 ∙ decode-read (a .q) (a .k) (a .b) _ ps (r .read-positions .ensures .1) 1 (f .counters-fit .result) (a .page .now) (a .thresholds .now) lent (a .margins .now) (a .counts .now)) in
+    (e .0 ∙ decode-read bytePages (a .q) (a .k) (a .b) _ ps (r .read-positions .ensures .1) 1 (f .counters-fit .result) (a .page .now) (a .thresholds .now) lent (a .margins .now) (a .counts .now)) in
     let given = done .0 ∙ ap (λ (b : Bool). cDecodeOutcome code b (a .page .now) (a .thresholds .now) lent (a .margins .now) (a .counts .now)) (f .counters-fit .ensures) in
     (λ i. record { given = given i; counters = e .1 i }, done .1)
 

@@ -8,7 +8,7 @@ use native.Mathlib.Omega.{arith}
 use lib.Seq.{length-take-le}
 use Rattle.model.specs.Bytes.{positionsOf, cDecodeOutcome}
 use Rattle.model.specs.Calls.{Decoded}
-use Rattle.model.specs.Code.{codeOf}
+use Rattle.model.specs.Code.{bytePages, codeOf}
 use Rattle.model.specs.Decoder.{stateBy, decodedCounts}
 use Rattle.model.specs.Demand.{DecodeFalls, DecodeRecovers}
 use Rattle.octets.specs.Positions.{kept}
@@ -42,7 +42,7 @@ whole s xs e r x h =
     let ps = positionsOf (a .table .now) in
     let lent = stateBy (a .result .now) (a .syndrome .now) (a .difference .now) in
     c-decode-done (codeOf (a .q) (a .k) (a .b) ps) true (a .page .now) (a .thresholds .now) lent (a .margins .now) (a .counts .now) r x
-    (h ∙ decode-read (a .q) (a .k) (a .b) xs ps e 1 true (a .page .now) (a .thresholds .now) lent (a .margins .now) (a .counts .now))
+    (h ∙ decode-read bytePages (a .q) (a .k) (a .b) xs ps e 1 true (a .page .now) (a .thresholds .now) lent (a .margins .now) (a .counts .now))
 
 slice-aggregate-read-positions : tie.Need-slice-aggregate-read-positions
 slice-aggregate-read-positions c = search needs

@@ -7,7 +7,7 @@ use native.Mathlib.Omega.{arith}
 use lib.Seq.{length-take-le}
 use Rattle.model.specs.Bytes.{positionsOf, cExplainOutcome}
 use Rattle.model.specs.Calls.{Outcome}
-use Rattle.model.specs.Code.{codeOf}
+use Rattle.model.specs.Code.{bytePages, codeOf}
 use Rattle.model.specs.Decoder.{stateBy}
 use Rattle.octets.specs.Positions.{kept}
 use Rattle.octets.specs.Reads.{explain-read}
@@ -24,7 +24,7 @@ Holds s ps o =
 whole : (s : tie.Start) (xs : List ℕ) → xs ≡ kept (positionsOf (s .args .table .now)) → (o : Outcome (List ℕ)) → Holds s xs o → Holds s (positionsOf (s .args .table .now)) o
 whole s xs e o h =
     let a = s .args in
-    h ∙ explain-read (a .q) (a .k) (a .b) xs (positionsOf (a .table .now)) e (a .threshold) (a .symbol)
+    h ∙ explain-read bytePages (a .q) (a .k) (a .b) xs (positionsOf (a .table .now)) e (a .threshold) (a .symbol)
     (stateBy (a .result .now) (a .syndrome .now) (a .difference .now)) (a .answer .now)
 
 slice-aggregate-read-positions : tie.Need-slice-aggregate-read-positions

@@ -9,7 +9,7 @@ use lib.ListN.{length}
 use lib.Seq.{length-take-le}
 use Rattle.model.specs.Bytes.{positionsOf, cDecodeOuterOutcome}
 use Rattle.model.specs.Calls.{Decoded}
-use Rattle.model.specs.Code.{codeOf}
+use Rattle.model.specs.Code.{bytePages, codeOf}
 use Rattle.model.specs.Decoder.{stateBy}
 use Rattle.model.specs.Demand.{OuterFalls, OuterRecovers}
 use Rattle.model.specs.Outer.{outerCounts}
@@ -47,7 +47,7 @@ whole s xs e n l r x h =
     let code = codeOf (a .q) (a .k) (a .b) ps in
     let lent = stateBy (a .result .now) (a .syndrome .now) (a .difference .now) in
     c-decode-outer-done code (a .block) (a .page .now) (a .thresholds .now) lent (a .margins .now) (a .counts .now) r x
-    (h ∙ decode-read (a .q) (a .k) (a .b) xs ps e n true (a .page .now) (a .thresholds .now) lent (a .margins .now) (a .counts .now)
+    (h ∙ decode-read bytePages (a .q) (a .k) (a .b) xs ps e n true (a .page .now) (a .thresholds .now) lent (a .margins .now) (a .counts .now)
     ∙ ap (λ (m : ℕ). cDecodeForm code m true (a .page .now) (a .thresholds .now) lent (a .margins .now) (a .counts .now)) l)
 
 -- where the small buffers are chosen there is room in them

@@ -6,7 +6,7 @@ use native.Mathlib.Omega.{arith}
 use lib.Seq.{length-take-le}
 use Rattle.model.specs.Bytes.{positionsOf}
 use Rattle.model.specs.Calls.{tableAnswer}
-use Rattle.model.specs.Code.{codeOf}
+use Rattle.model.specs.Code.{bytePages, codeOf}
 use Rattle.octets.specs.Positions.{kept}
 use Rattle.octets.specs.Reads.{table-read}
 use borrow.Author.Needs.{needs}
@@ -19,7 +19,7 @@ Holds s ps r = r ≡ tableAnswer (codeOf (s .args .q) (s .args .k) (s .args .b) 
 
 -- what holds with the positions that are read, xs, holds with those of the table
 whole : (s : tie.Start) (xs : List ℕ) → xs ≡ kept (positionsOf (s .args .table .now)) → (r : ℕ) → Holds s xs r → Holds s (positionsOf (s .args .table .now)) r
-whole s xs e r h = h ∙ table-read (s .args .q) (s .args .k) (s .args .b) xs (positionsOf (s .args .table .now)) e
+whole s xs e r h = h ∙ table-read bytePages (s .args .q) (s .args .k) (s .args .b) xs (positionsOf (s .args .table .now)) e
 
 slice-aggregate-read-positions : tie.Need-slice-aggregate-read-positions
 slice-aggregate-read-positions c = search needs

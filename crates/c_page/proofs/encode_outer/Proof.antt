@@ -6,7 +6,7 @@ use native.Mathlib.Omega.{arith}
 use lib.Seq.{length-take-le}
 use Rattle.model.specs.Bytes.{positionsOf}
 use Rattle.model.specs.Calls.{encodeOuterOutcome}
-use Rattle.model.specs.Code.{codeOf}
+use Rattle.model.specs.Code.{bytePages, codeOf}
 use Rattle.model.specs.Demand.{EncodesOuter}
 use Rattle.octets.specs.Positions.{kept}
 use Rattle.octets.specs.Reads.{encode-outer-read, encodes-outer-read}
@@ -26,8 +26,8 @@ whole : (s : tie.Start) (xs : List ℕ) → xs ≡ kept (positionsOf (s .args .t
 whole s xs e r x h =
     let a = s .args in
     let ps = positionsOf (a .table .now) in (
-      h .0 ∙ encode-outer-read (a .q) (a .k) (a .b) xs ps e (a .block) (a .«data» .now) (a .page .now),
-      λ z. encodes-outer-read (a .q) (a .k) (a .b) xs ps e (a .block) (a .«data» .now) x (h .1 z),
+      h .0 ∙ encode-outer-read bytePages (a .q) (a .k) (a .b) xs ps e (a .block) (a .«data» .now) (a .page .now),
+      λ z. encodes-outer-read bytePages (a .q) (a .k) (a .b) xs ps e (a .block) (a .«data» .now) x (h .1 z),
     )
 
 slice-aggregate-read-positions : tie.Need-slice-aggregate-read-positions

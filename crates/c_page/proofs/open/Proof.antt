@@ -6,7 +6,7 @@ use native.Mathlib.Omega.{arith}
 use lib.Seq.{length-take-le}
 use Rattle.model.specs.Bytes.{positionsOf}
 use Rattle.model.specs.Calls.{Outcome, openOutcome}
-use Rattle.model.specs.Code.{codeOf}
+use Rattle.model.specs.Code.{bytePages, codeOf}
 use Rattle.model.specs.Decoder.{State, stateBy}
 use Rattle.octets.specs.Positions.{kept}
 use Rattle.octets.specs.Reads.{open-read}
@@ -24,7 +24,7 @@ Holds s ps o =
 whole : (s : tie.Start) (xs : List ℕ) → xs ≡ kept (positionsOf (s .args .table .now)) → (o : Outcome State) → Holds s xs o → Holds s (positionsOf (s .args .table .now)) o
 whole s xs e o h =
     let a = s .args in
-    h ∙ open-read (a .q) (a .k) (a .b) xs (positionsOf (a .table .now)) e (a .page .now) (stateBy (a .result .now) (a .syndrome .now) (a .difference .now))
+    h ∙ open-read bytePages (a .q) (a .k) (a .b) xs (positionsOf (a .table .now)) e (a .page .now) (stateBy (a .result .now) (a .syndrome .now) (a .difference .now))
 
 slice-aggregate-read-positions : tie.Need-slice-aggregate-read-positions
 slice-aggregate-read-positions c = search needs

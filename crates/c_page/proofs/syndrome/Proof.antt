@@ -6,7 +6,7 @@ use native.Mathlib.Omega.{arith}
 use lib.Seq.{length-take-le}
 use Rattle.model.specs.Bytes.{positionsOf}
 use Rattle.model.specs.Calls.{Outcome, syndromeOutcome}
-use Rattle.model.specs.Code.{codeOf}
+use Rattle.model.specs.Code.{bytePages, codeOf}
 use Rattle.octets.specs.Positions.{kept}
 use Rattle.octets.specs.Reads.{syndrome-read}
 use borrow.Author.Needs.{needs}
@@ -19,7 +19,7 @@ Holds s ps o = o ≡ syndromeOutcome (codeOf (s .args .q) (s .args .k) (s .args 
 
 -- what holds with the positions that are read, xs, holds with those of the table
 whole : (s : tie.Start) (xs : List ℕ) → xs ≡ kept (positionsOf (s .args .table .now)) → (o : Outcome (List ℕ)) → Holds s xs o → Holds s (positionsOf (s .args .table .now)) o
-whole s xs e o h = let a = s .args in h ∙ syndrome-read (a .q) (a .k) (a .b) xs (positionsOf (a .table .now)) e (a .page .now) (a .syndrome .now)
+whole s xs e o h = let a = s .args in h ∙ syndrome-read bytePages (a .q) (a .k) (a .b) xs (positionsOf (a .table .now)) e (a .page .now) (a .syndrome .now)
 
 slice-aggregate-read-positions : tie.Need-slice-aggregate-read-positions
 slice-aggregate-read-positions c = search needs

@@ -7,7 +7,7 @@ use native.Mathlib.Omega.{arith}
 use lib.Seq.{length-take-le}
 use Rattle.model.specs.Bytes.{positionsOf, cPassOutcome}
 use Rattle.model.specs.Calls.{Passed}
-use Rattle.model.specs.Code.{codeOf}
+use Rattle.model.specs.Code.{bytePages, codeOf}
 use Rattle.model.specs.Decoder.{State, stateBy}
 use Rattle.model.specs.Demand.{PassFalls}
 use Rattle.octets.specs.Positions.{kept}
@@ -29,7 +29,7 @@ whole : (s : tie.Start) (xs : List ℕ) → xs ≡ kept (positionsOf (s .args .t
     (record { number = r; left = x } ≡ cPassOutcome c (s .args .threshold) (lent s) (s .args .changes .now)) × (r ≡ 0 → PassFalls c (s .args .threshold) (lent s))
 whole s xs e r x h =
     let a = s .args in
-    pass-whole (a .q) (a .k) (a .b) xs (positionsOf (a .table .now)) e (a .threshold) (lent s) (a .changes .now) r x h
+    pass-whole bytePages (a .q) (a .k) (a .b) xs (positionsOf (a .table .now)) e (a .threshold) (lent s) (a .changes .now) r x h
 
 slice-aggregate-read-positions : tie.Need-slice-aggregate-read-positions
 slice-aggregate-read-positions c = search needs

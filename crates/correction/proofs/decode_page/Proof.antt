@@ -3,7 +3,7 @@ use borrow.Author.Needs.{needs}
 use mathlib.Core.Path.{_≡_, refl, sym, _∙_, ap, subst}
 use native.Mathlib.Omega.{arith}
 use Rattle.model.specs.Decoder.{State}
-use Rattle.params.specs.Codes.{codeBy}
+use Rattle.params.specs.Codes.{in-bytes, codeBy}
 use Rattle.tally.specs.declared.Tally.{Tally}
 use Rattle.visits.specs.Progress.{progress, Ready, both}
 use Rattle.passes.specs.Runs.{runOf}
@@ -64,7 +64,7 @@ run-requires c κs =
     let b = start o in
     let a = b .args in
     let code = codeBy (a .code) (a .positions .now) in (
-      subst (λ (st : State). Ready code st) (sym (o .open-page .ensures .0)) (opened-ready code (a .page .now) _ (b .pre .0 .opens) (omega arith)),
+      subst (λ (st : State). Ready code st) (sym (o .open-page .ensures .0)) (opened-ready code (a .page .now) _ (b .pre .0 .opens) (in-bytes (a .code .bits))),
       b .pre .0 .few,
       ap (λ (t : Tally). t .changes) (t .opened2 .ensures),
       b .pre .1,

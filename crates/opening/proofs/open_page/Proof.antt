@@ -6,7 +6,7 @@ use native.Mathlib.Omega.{arith}
 use lib.ListN.{length, take}
 use lib.Seq.{length-take-le}
 use Rattle.model.specs.Symbols.{weight, tabulate}
-use Rattle.params.specs.Codes.{codeBy}
+use Rattle.params.specs.Codes.{in-bytes, codeBy}
 use Rattle.opening.specs.Opened.{opens-bytes, opened-by, opened-distance}
 use Rattle.opening.proofs.open_page.Statement.{statement}
 use Rattle.opening.proofs.open_page.Tie as tie
@@ -33,7 +33,7 @@ copy-into-requires c κs =
 write-syndrome-requires : tie.Need-write-syndrome-requires
 write-syndrome-requires c κs =
     let b = start (c .before .before .before .before .before .before) in
-    (opens-bytes _ _ _ (b .pre) (omega arith), b .pre .whole, b .pre .len-syndrome)
+    (opens-bytes _ _ _ (b .pre) (in-bytes (b .args .code .bits)), b .pre .whole, b .pre .len-syndrome)
 
 clear-requires : tie.Need-clear-requires
 clear-requires c κs = search needs

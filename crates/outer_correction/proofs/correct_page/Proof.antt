@@ -4,7 +4,7 @@ use mathlib.Core.Path.{ap, _∙_}
 use native.Mathlib.Omega.{arith}
 use Rattle.model.specs.Code.{Code}
 use Rattle.model.specs.Decoder.{State, stateBy, stateWeight}
-use Rattle.params.specs.Codes.{codeBy}
+use Rattle.params.specs.Codes.{in-bytes, codeBy}
 use Rattle.theory.specs.Answers.{Opens, BlockFits}
 use Rattle.theory.specs.Counters.{clear-written}
 use Rattle.outer_steps.specs.Blocks.{Stepped}
@@ -55,13 +55,13 @@ outer-steps-requires c κs =
     let two = c .before .before .before in
     let d = passes (two .before .before) in
     let b = start d in
-    (passed-ready (codeAt b) (b .args .block) _ _ _ (opens b) (passed d) (d .decode-page .ensures .0) (omega arith), b .pre .1 (two .if2 .taken))
+    (passed-ready (codeAt b) (b .args .block) _ _ _ (opens b) (passed d) (d .decode-page .ensures .0) (in-bytes (b .args .code .bits)), b .pre .1 (two .if2 .taken))
 
 ready : (x : tie.After-outer-steps) → Ready (codeAt (start (before-steps x))) (stepped x .state)
 ready x =
     let d = before-steps x in
     let b = start d in
-    stepped-ready (codeAt b) _ _ _ _ (opens b) (passed d) (d .decode-page .ensures .0) (fits x) (stepped x) (x .outer-steps .ensures) (omega arith)
+    stepped-ready (codeAt b) _ _ _ _ (opens b) (passed d) (d .decode-page .ensures .0) (fits x) (stepped x) (x .outer-steps .ensures) (in-bytes (b .args .code .bits))
 
 clear-requires : tie.Need-clear-requires
 clear-requires c κs = search needs

@@ -10,7 +10,7 @@ use native.Mathlib.Omega.{arith}
 use Rattle.model.specs.Calls.{stateFits, passAnswer, passOutcome}
 use Rattle.model.specs.Code.{Code}
 use Rattle.model.specs.Decoder.{State, stateBy}
-use Rattle.params.specs.Codes.{codeBy}
+use Rattle.params.specs.Codes.{in-bytes, codeBy}
 use Rattle.params.specs.Sizes.{sizes-fit}
 use Rattle.tally.specs.declared.Tally.{Tally}
 use Rattle.theory.specs.Answers.{PassTaken, pass-taken, table-usable}
@@ -100,7 +100,7 @@ run-requires : tie.Need-run-requires
 run-requires c κs =
     let o = c .before .before .before .before .before .before in
     let e = o .before in (
-      taken-ready _ _ _ (omega arith) (taken e),
+      taken-ready _ _ _ (in-bytes (start (e .before) .args .code .bits)) (taken e),
       omega arith,
       ap (λ (t : Tally). t .changes) (o .opened .ensures),
       length-take-le _ _ (omega (arith, counted e, room e)) ∙ counted e,

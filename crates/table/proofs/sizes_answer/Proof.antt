@@ -8,35 +8,32 @@ use Rattle.theory.specs.Answers.{and-true, within-facts, refused-by, passed-by,
 use Rattle.table.proofs.sizes_answer.Statement.{statement}
 use Rattle.table.proofs.sizes_answer.Tie as tie
 
-cast-within : tie.Need-cast-within
-cast-within c = search needs
-
-within-requires : tie.Need-within-requires
-within-requires c κs = search needs
+q-fits-requires : tie.Need-q-fits-requires
+q-fits-requires c κs = search needs
 
 returns : tie.Need-returns
 unfolding sizeTests
-returns c = sym (refused-by 1 _ _ (sym (c .before .within .ensures) ∙ not-true _ (c .if1 .taken)))
+returns c = sym (refused-by 1 _ _ (sym (c .before .q-fits .ensures) ∙ not-true _ (c .if1 .taken)))
 
-within-requires-2 : tie.Need-within-requires-2
-within-requires-2 c κs = search needs
+within-requires : tie.Need-within-requires
+within-requires c κs = search needs
 
 returns-2 : tie.Need-returns-2
 unfolding sizeTests
 returns-2 c =
     let one = c .before .before in
-    sym (passed-by 1 _ _ (sym (one .before .within .ensures) ∙ not-false _ (one .if1 .left)) ∙ refused-by 2 _ _ (sym (c .before .within2 .ensures) ∙ not-true _ (c .if2 .taken)))
+    sym (passed-by 1 _ _ (sym (one .before .q-fits .ensures) ∙ not-false _ (one .if1 .left)) ∙ refused-by 2 _ _ (sym (c .before .within .ensures) ∙ not-true _ (c .if2 .taken)))
 
 branches-fit-requires : tie.Need-branches-fit-requires
-branches-fit-requires c κs = within-facts 1 4096 _ (sym (c .before .within2 .ensures) ∙ not-false _ (c .if2 .left)) .1
+branches-fit-requires c κs = within-facts 1 4096 _ (sym (c .before .within .ensures) ∙ not-false _ (c .if2 .left)) .1
 
 returns-3 : tie.Need-returns-3
 unfolding sizeTests
 returns-3 c =
     let two = c .before .before in
     let one = two .before .before in
-    sym (passed-by 1 _ _ (sym (one .before .within .ensures) ∙ not-false _ (one .if1 .left))
-    ∙ passed-by 2 _ _ (sym (two .before .within2 .ensures) ∙ not-false _ (two .if2 .left))
+    sym (passed-by 1 _ _ (sym (one .before .q-fits .ensures) ∙ not-false _ (one .if1 .left))
+    ∙ passed-by 2 _ _ (sym (two .before .within .ensures) ∙ not-false _ (two .if2 .left))
     ∙ refused-by 10 _ _ (sym (c .before .branches-fit .ensures []) ∙ not-true _ (c .if3 .taken)))
 
 runs-fit-requires : tie.Need-runs-fit-requires
@@ -50,8 +47,8 @@ returns-4 c =
     let ten = c .before .before in
     let two = ten .before .before in
     let one = two .before .before in
-    sym (passed-by 1 _ _ (sym (one .before .within .ensures) ∙ not-false _ (one .if1 .left))
-    ∙ passed-by 2 _ _ (sym (two .before .within2 .ensures) ∙ not-false _ (two .if2 .left))
+    sym (passed-by 1 _ _ (sym (one .before .q-fits .ensures) ∙ not-false _ (one .if1 .left))
+    ∙ passed-by 2 _ _ (sym (two .before .within .ensures) ∙ not-false _ (two .if2 .left))
     ∙ passed-by 10 _ _ (sym (ten .before .branches-fit .ensures []) ∙ not-false _ (ten .if3 .left))
     ∙ refused-by 3 _ _ (sym (c .before .runs-fit .ensures) ∙ not-true _ (c .if4 .taken)))
 
@@ -61,8 +58,8 @@ returns-5 c =
     let ten = c .before .before in
     let two = ten .before .before in
     let one = two .before .before in
-    sym (passed-by 1 _ _ (sym (one .before .within .ensures) ∙ not-false _ (one .if1 .left))
-    ∙ passed-by 2 _ _ (sym (two .before .within2 .ensures) ∙ not-false _ (two .if2 .left))
+    sym (passed-by 1 _ _ (sym (one .before .q-fits .ensures) ∙ not-false _ (one .if1 .left))
+    ∙ passed-by 2 _ _ (sym (two .before .within .ensures) ∙ not-false _ (two .if2 .left))
     ∙ passed-by 10 _ _ (sym (ten .before .branches-fit .ensures []) ∙ not-false _ (ten .if3 .left))
     ∙ passed-by 3 _ _ (sym (c .before .runs-fit .ensures) ∙ not-false _ (c .if4 .left))
     ∙ nothing-applies)
@@ -71,10 +68,9 @@ pub sizes-answer-spec : {M : Type 1} → statement M
 sizes-answer-spec =
     tie.close
     (tie.spec
-    cast-within
-    within-requires
+    q-fits-requires
     returns
-    within-requires-2
+    within-requires
     returns-2
     branches-fit-requires
     returns-3
