@@ -49,21 +49,24 @@ fn run_counted(
         let threshold = thresholds[p];
         let mut place = Place::opening(code.k, each);
         while place.symbol < symbols {
-            let mut at = visits::open_from(place, place.symbol, each, threshold, difference, zeros);
+            let mut at = place;
             while at.symbol < place.end {
-                tally = visits::visit(
-                    code,
-                    positions,
-                    at,
-                    threshold,
-                    result,
-                    syndrome,
-                    difference,
-                    zeros,
-                    counters,
-                    tally,
-                );
-                at = visits::open_from(at, at.symbol + 1, each, threshold, difference, zeros);
+                at = visits::open_from(at, each, threshold, difference, zeros);
+                if at.symbol < place.end {
+                    tally = visits::visit(
+                        code,
+                        positions,
+                        at,
+                        threshold,
+                        result,
+                        syndrome,
+                        difference,
+                        zeros,
+                        counters,
+                        tally,
+                    );
+                    at = at.along();
+                }
             }
             place = at.onward(code.k);
         }

@@ -59,7 +59,7 @@ past-block {n} {a} {b} {r} {v} {zs} w f h e all few =
       high = h;
       many = (λ j l m.
           let at : getD (take (r + w - r) (drop r zs)) (j - r) 0 ≡ getD zs j 0 =
-              getD-take (r + w - r) (drop r zs) (j - r) 0 (omega arith) ∙ getD-drop r zs (j - r) 0 ∙ ap (λ (i : ℕ). getD zs i 0) (let z : r + (j - r) ≡ j = omega arith in z) in
+          getD-take (r + w - r) (drop r zs) (j - r) 0 (omega arith) ∙ getD-drop r zs (j - r) 0 ∙ ap (λ (i : ℕ). getD zs i 0) (let z : r + (j - r) ≡ j = omega arith in z) in
           omega (arith, at, all (j - r) (omega (arith, part-length r w zs (omega arith)))));
     })
 
@@ -113,10 +113,10 @@ open-yes J n b e t = leb-true n J (sym e ∙ t)
 pub open-no : (J n : ℕ) (b : Bool) → b ≡ leb n J → b ≡ false → J < n
 open-no J n b e t = leb-false n J (sym e ∙ t)
 
--- the first place of p's branch from symbol a on that is not settled, or the one after its last symbol
-pub record OpenFrom (J t : ℕ) (d zs : List ℕ) (p : Place) (a : ℕ) (r : Place) : Type 0 where
+-- the first place of p's branch from p on that is not settled, or the one after its last symbol
+pub record OpenFrom (J t : ℕ) (d zs : List ℕ) (p r : Place) : Type 0 where
   pub same : r ≡ record { symbol = r .symbol; start = p .start; end = p .end; first = p .first; last = p .last }
-  pub first : FirstOpen J t d zs a (p .end) (r .symbol)
+  pub first : FirstOpen J t d zs (p .symbol) (p .end) (r .symbol)
   pub open-here : r .symbol < p .end → Open J t d zs (r .symbol)
 
 -- a visit that is settled changes nothing

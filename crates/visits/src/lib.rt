@@ -335,18 +335,11 @@ fn first_open(
     end
 }
 
-// The first place of a branch, from a symbol on, that the zeros do not settle, or the one after its last symbol: the visits to those
+// The first place of a branch, from one on, that the zeros do not settle, or the one after its last symbol: the visits to those
 // before it change nothing.
-pub fn open_from(
-    place: Place,
-    from: usize,
-    each: usize,
-    threshold: u8,
-    difference: &[u8],
-    zeros: &[u8],
-) -> Place
-    requires { ⌜ (from ≤ place .end) × (place .end ≤ length (now difference)) × (place .end ≤ length (now zeros)) ⌝ }
-    ensures { λ r. ⌜ OpenFrom each threshold (now (difference .entry)) (now (zeros .entry)) place from r ⌝ }
+pub fn open_from(place: Place, each: usize, threshold: u8, difference: &[u8], zeros: &[u8]) -> Place
+    requires { ⌜ (place .symbol ≤ place .end) × (place .end ≤ length (now difference)) × (place .end ≤ length (now zeros)) ⌝ }
+    ensures { λ r. ⌜ OpenFrom each threshold (now (difference .entry)) (now (zeros .entry)) place r ⌝ }
 {
-    place.at(first_open(each, threshold, difference, zeros, from, place.end))
+    place.at(first_open(each, threshold, difference, zeros, place.symbol, place.end))
 }

@@ -7,12 +7,12 @@ use native.Mathlib.Omega.{arith}
 use lib.ListN.{length, getD, drop, drop-of-length-le}
 use Rattle.model.specs.Code.{Code, dataCount}
 use Rattle.params.specs.Codes.{codeBy}
-use Rattle.checks.specs.Places.{InBranch, AtBranch, branch-first, branch-some, branch-next, branch-over, Placed, same-end, in-placed, in-later, in-end, in-onward, onward-less, onward-fits}
+use Rattle.checks.specs.Places.{InBranch, AtBranch, branch-first, branch-some, branch-next, branch-over, Placed, same-end, in-placed, in-along, in-later, in-end, in-onward, onward-less, onward-fits}
 use Rattle.checks.specs.declared.Place.{Place}
 use Rattle.theory.specs.Counters.{Clear}
 use Rattle.zeros.specs.Counts.{zeroCounts, length-zeroCounts}
 use Rattle.visits.specs.Progress.{Progress, progress, visitOf, Ready}
-use Rattle.visits.specs.Settled.{Open, settled-left}
+use Rattle.visits.specs.Settled.{settled-left}
 use Rattle.passes.specs.Runs.{visits, visits-suc, visitsFrom, from-none, from-suc, from-skip, visits-from, passesFrom, runOf, Kept, kept-by, passes-nil, pass-idle, pass-changed}
 use Rattle.passes.proofs.run_counted.Statement.{statement}
 use Rattle.passes.proofs.run_counted.Tie as tie
@@ -24,7 +24,6 @@ Inv-loop3 code positions thresholds result₀ syndrome₀ difference₀ zeros₀
     ≡ visitsFrom (codeBy code positions) threshold (place .symbol) (at .symbol - place .symbol) (progress result₀ syndrome₀ difference₀ tally₀))
     × (zeros ≡ zeroCounts (codeBy code positions) syndrome)
     × (counters ≡ counters₀)
-    × (at .symbol < place .end → Open each threshold difference zeros (at .symbol))
 
 abbrev μ-loop3 : tie.MeasureT-loop3
 μ-loop3 code positions thresholds result₀ syndrome₀ difference₀ zeros₀ counters₀ n symbols each tally₀ p count before threshold place at₀ result syndrome difference zeros counters tally at =
@@ -80,7 +79,7 @@ inner c = progress (c .loop3 .result) (c .loop3 .syndrome) (c .loop3 .difference
 
 -- the loop over branches, seen from the loop over the symbols of one
 abbrev branches : tie.At-loop3 Inv-loop3 μ-loop3 Inv-loop2 μ-loop2 Inv-loop μ-loop → tie.At-loop2 Inv-loop3 μ-loop3 Inv-loop2 μ-loop2 Inv-loop μ-loop
-branches c = c .before .before .before .before .before .before
+branches c = c .before .before .before
 
 -- what the visits of a pass keep
 kept : (c : tie.At-loop2 Inv-loop3 μ-loop3 Inv-loop2 μ-loop2 Inv-loop μ-loop) → Kept (codeAt (outer c)) (c .loop2 .place .symbol) (between (outer c)) (within c)
@@ -126,36 +125,8 @@ all-visited c =
     let l = outer i in
     branch-over (start l .pre .0 .usable .table) (i .loop2 .inv .0) (omega (arith, l .before .before .data-count .ensures, c .if2 .left))
 
--- the buffers are as long as the branch asks, where it opens
-open-from-requires : tie.Need-open-from-requires Inv-loop3 μ-loop3 Inv-loop2 μ-loop2 Inv-loop μ-loop
-open-from-requires c κs =
-    let t = c .before .before in
-    let i = t .before .before in
-    let r = kept i .ready in
-    let w = next-branch t in
-    let inside = in-end (r .usable .table) w in (
-      omega (arith, branch-some (r .usable .table) (i .loop2 .inv .0)),
-      omega (arith, inside, r .sized .len-difference),
-      omega (arith, inside, ap length (i .loop2 .inv .2) ∙ length-zeroCounts _ _),
-    )
-
 loop3-holds : tie.Need-loop3-holds Inv-loop3 μ-loop3 Inv-loop2 μ-loop2 Inv-loop μ-loop
-loop3-holds c =
-    let t = c .before .before .before in
-    let i = t .before .before in
-    let l = outer i in
-    let n = c .open-from .ensures in
-    let w = next-branch t in
-    let usable = kept i .ready .usable in
-    let inside = in-end (usable .table) w in (
-      in-later (usable .table) w _ (n .same) (n .first .low) (n .first .high),
-      from-skip _ _ _ 0 _ _ _ (from-none _ _ _ 0 _ refl) (omega arith)
-          (λ j a b. settled-left _ usable _ _ _ _ _ (i .loop2 .inv .2) _ _ (omega (arith, n .first .high))
-          (omega (arith, l .before .checks-each .ensures, n .first .passed (i .loop2 .place .symbol + j) (omega arith) (omega arith)))),
-      i .loop2 .inv .2,
-      refl,
-      n .open-here,
-    )
+loop3-holds c = let i = c .before .before in (next-branch c, from-none _ _ _ _ _ (omega arith), i .loop2 .inv .2, refl)
 
 -- the visits of the pass, those of the branch included, and what they keep
 made : (c : tie.At-loop3 Inv-loop3 μ-loop3 Inv-loop2 μ-loop2 Inv-loop μ-loop)
@@ -168,77 +139,113 @@ kept-in : (c : tie.At-loop3 Inv-loop3 μ-loop3 Inv-loop2 μ-loop2 Inv-loop μ-lo
     → Kept (codeAt (outer (branches c))) (c .loop3 .at .symbol) (between (outer (branches c))) (inner c)
 kept-in c = kept-by _ _ _ _ _ (outer (branches c) .loop .inv .3 .ready) (made c)
 
--- a symbol is next, where the inner loop goes on
-placed : (c : tie.Then3 Inv-loop3 μ-loop3 Inv-loop2 μ-loop2 Inv-loop μ-loop) → Placed (codeAt (outer (branches (c .before .before .before)))) (c .before .before .before .loop3 .at)
-placed c =
-    let i = c .before .before .before in
-    in-placed (kept-in i .ready .usable .table) (i .loop3 .inv .0) (omega (arith, c .if3 .taken, same-end (i .loop3 .inv .0)))
+-- the loop over the symbols of a branch, seen from where the next one that is not settled is found
+abbrev looked : tie.After-open-from Inv-loop3 μ-loop3 Inv-loop2 μ-loop2 Inv-loop μ-loop → tie.At-loop3 Inv-loop3 μ-loop3 Inv-loop2 μ-loop2 Inv-loop μ-loop
+looked x = x .before .before .before .before .before .before
+
+-- the buffers are as long as the branch asks
+open-from-requires : tie.Need-open-from-requires Inv-loop3 μ-loop3 Inv-loop2 μ-loop2 Inv-loop μ-loop
+open-from-requires c κs =
+    let t = c .before .before in
+    let i = t .before .before .before in
+    let r = kept-in i .ready in
+    let w = i .loop3 .inv .0 in
+    let inside = in-end (r .usable .table) w in (
+      omega (arith, t .if3 .taken, same-end w),
+      omega (arith, inside, r .sized .len-difference),
+      omega (arith, inside, ap length (i .loop3 .inv .2) ∙ length-zeroCounts _ _),
+    )
+
+-- it is in the branch, and the visits to those before it change nothing
+reached : (x : tie.After-open-from Inv-loop3 μ-loop3 Inv-loop2 μ-loop2 Inv-loop μ-loop) → InBranch (codeAt (outer (branches (looked x)))) (branches (looked x) .loop2 .place) (x .open-from .result)
+reached x =
+    let i = looked x in
+    let n = x .open-from .ensures in
+    in-later (kept-in i .ready .usable .table) (i .loop3 .inv .0) _ (n .same) (n .first .low) (n .first .high)
+
+skipped : (x : tie.After-open-from Inv-loop3 μ-loop3 Inv-loop2 μ-loop2 Inv-loop μ-loop)
+    → let i = looked x in
+    let b = branches i in
+    let l = outer b in
+    inner i ≡ visitsFrom (codeAt l) (getD (start l .args .thresholds .now) (l .loop .p) 0) (b .loop2 .place .symbol) (x .open-from .result .symbol - b .loop2 .place .symbol) (within b)
+skipped x =
+    let i = looked x in
+    let b = branches i in
+    let w = i .loop3 .inv .0 in
+    let n = x .open-from .ensures .first in
+    let usable = kept-in i .ready .usable in
+    let inside = in-end (usable .table) w in
+    from-skip _ _ _ _ _ _ _ (i .loop3 .inv .1) (omega (arith, w .low, n .low))
+    (λ j a e. settled-left _ usable _ _ _ _ _ (i .loop3 .inv .2) _ _ (omega (arith, w .low, n .high))
+    (omega (arith, outer b .before .checks-each .ensures, n .passed (b .loop2 .place .symbol + j) (omega (arith, w .low)) (omega (arith, w .low)))))
+
+-- a symbol is next, where one is found
+abbrev found : tie.Then4 Inv-loop3 μ-loop3 Inv-loop2 μ-loop2 Inv-loop μ-loop → tie.After-open-from Inv-loop3 μ-loop3 Inv-loop2 μ-loop2 Inv-loop μ-loop
+found t = t .before .before .before
+
+inside-end : (t : tie.Then4 Inv-loop3 μ-loop3 Inv-loop2 μ-loop2 Inv-loop μ-loop) → found t .open-from .result .symbol < found t .open-from .result .end
+inside-end t = omega (arith, t .if4 .taken, same-end (reached (found t)))
+
+placed : (t : tie.Then4 Inv-loop3 μ-loop3 Inv-loop2 μ-loop2 Inv-loop μ-loop) → Placed (codeAt (outer (branches (looked (found t))))) (found t .open-from .result)
+placed t = in-placed (kept-in (looked (found t)) .ready .usable .table) (reached (found t)) (inside-end t)
 
 -- the changes stay far below what a tally can hold
-few-changes : (c : tie.Then3 Inv-loop3 μ-loop3 Inv-loop2 μ-loop2 Inv-loop μ-loop) → c .before .before .before .loop3 .tally .changes < 4294967295
-few-changes c =
-    let i = c .before .before .before in
+few-changes : (t : tie.Then4 Inv-loop3 μ-loop3 Inv-loop2 μ-loop2 Inv-loop μ-loop) → looked (found t) .loop3 .tally .changes < 4294967295
+few-changes t =
+    let i = looked (found t) in
     let l = outer (branches i) in
     let k = kept-in i in
-    omega (arith, placed c .inside, k .few, l .loop .inv .3 .few, k .ready .usable .table .sizes .data-high, start l .pre .1, start l .pre .2, branches i .before .before .before .if1 .left)
+    omega (arith, placed t .inside, found t .open-from .ensures .first .low, k .few, l .loop .inv .3 .few, k .ready .usable .table .sizes .data-high, start l .pre .1, start l .pre .2, branches i .before .before .before .if1 .left)
 
 visit-requires : tie.Need-visit-requires Inv-loop3 μ-loop3 Inv-loop2 μ-loop2 Inv-loop μ-loop
 visit-requires c κs =
     let t = c .before .before .before .before .before in
-    let i = t .before .before .before in
+    let i = looked (found t) in
     let b = branches i in
     let same = i .loop3 .inv .3 ∙ b .loop2 .inv .3 ∙ outer b .loop .inv .5 in
-    (kept-in i .ready, placed t, few-changes t, i .loop3 .inv .2, subst Clear (sym same) (start (outer b) .pre .4), omega (arith, i .loop3 .inv .4 (t .if3 .taken), outer b .before .checks-each .ensures))
+    let n = found t .open-from .ensures in
+    (kept-in i .ready, placed t, few-changes t, i .loop3 .inv .2, subst Clear (sym same) (start (outer b) .pre .4), omega (arith, n .open-here (omega (arith, t .if4 .taken, same-end (i .loop3 .inv .0))), outer b .before .checks-each .ensures))
 
--- the visit, seen from where the next place is looked for, and the turn that made it
-abbrev visited : tie.After-struct-known4 Inv-loop3 μ-loop3 Inv-loop2 μ-loop2 Inv-loop μ-loop → tie.After-visit Inv-loop3 μ-loop3 Inv-loop2 μ-loop2 Inv-loop μ-loop
-visited c = c .before .before .before .before .before .before .before .before .before .before .before
+-- the visit, seen from where the place after it is taken, and the turn that made it
+abbrev visited : tie.After-slice-known10 Inv-loop3 μ-loop3 Inv-loop2 μ-loop2 Inv-loop μ-loop → tie.After-visit Inv-loop3 μ-loop3 Inv-loop2 μ-loop2 Inv-loop μ-loop
+visited c = c .before .before .before .before .before .before .before .before .before .before
 
-abbrev turn : tie.After-visit Inv-loop3 μ-loop3 Inv-loop2 μ-loop2 Inv-loop μ-loop → tie.Then3 Inv-loop3 μ-loop3 Inv-loop2 μ-loop2 Inv-loop μ-loop
+abbrev turn : tie.After-visit Inv-loop3 μ-loop3 Inv-loop2 μ-loop2 Inv-loop μ-loop → tie.Then4 Inv-loop3 μ-loop3 Inv-loop2 μ-loop2 Inv-loop μ-loop
 turn v = v .before .before .before .before .before .before
 
-add-open-from : tie.Need-add-open-from Inv-loop3 μ-loop3 Inv-loop2 μ-loop2 Inv-loop μ-loop
-add-open-from c = let t = turn (visited c) in omega (arith, placed t .inside, kept-in (t .before .before .before) .ready .usable .table .sizes .data-high)
-
-open-from-requires-2 : tie.Need-open-from-requires-2 Inv-loop3 μ-loop3 Inv-loop2 μ-loop2 Inv-loop μ-loop
-open-from-requires-2 c κs =
-    let v = visited (c .before .before) in
-    let t = turn v in
-    let i = t .before .before .before in
-    let l = outer (branches i) in
-    let e = v .visit .ensures in
-    let k = kept-by _ _ _ _ _ (l .loop .inv .3 .ready) (e .0 ∙ ap (visitOf _ _) (made i) ∙ sym (visits-suc _ _ _ _ _ refl)) in
-    let inside = in-end (kept-in i .ready .usable .table) (i .loop3 .inv .0) in (
-      omega (arith, t .if3 .taken, same-end (i .loop3 .inv .0)),
-      omega (arith, inside, k .ready .sized .len-difference),
-      omega (arith, inside, ap length (e .1 .0) ∙ length-zeroCounts _ _),
-    )
+along-requires : tie.Need-along-requires Inv-loop3 μ-loop3 Inv-loop2 μ-loop2 Inv-loop μ-loop
+along-requires c κs =
+    let t = turn (visited c) in
+    omega (arith, placed t .inside, kept-in (looked (found t)) .ready .usable .table .sizes .data-high)
 
 loop3-less : tie.Need-loop3-less Inv-loop3 μ-loop3 Inv-loop2 μ-loop2 Inv-loop μ-loop
 loop3-less c =
-    let n = c .open-from2 .ensures in
-    omega (arith, n .first .low, turn (visited (c .before .before .before)) .if3 .taken)
+    let t = turn (visited (c .before)) in
+    omega (arith, ap (λ (p : Place). p .symbol) (c .along .ensures), found t .open-from .ensures .first .low, t .if4 .taken)
 
 loop3-again : tie.Need-loop3-again Inv-loop3 μ-loop3 Inv-loop2 μ-loop2 Inv-loop μ-loop
 loop3-again c =
-    let v = visited (c .before .before .before) in
+    let v = visited (c .before) in
     let t = turn v in
-    let i = t .before .before .before in
-    let l = outer (branches i) in
+    let x = found t in
+    let i = looked x in
     let e = v .visit .ensures in
-    let n = c .open-from2 .ensures in
-    let w = i .loop3 .inv .0 in
-    let usable = kept-in i .ready .usable in
-    let inside = in-end (usable .table) w in
-    let made = e .0 ∙ ap (visitOf _ _) (i .loop3 .inv .1) ∙ sym (from-suc _ _ _ _ _ _ refl _ (omega (arith, w .low))) in (
-      in-later (usable .table) w _ (n .same) (omega (arith, n .first .low)) (n .first .high),
-      from-skip _ _ _ _ _ _ _ made (omega (arith, w .low, n .first .low))
-          (λ j a b. settled-left _ usable _ _ _ _ _ (e .1 .0) _ _ (omega (arith, w .low, n .first .high))
-          (omega (arith, l .before .checks-each .ensures, n .first .passed (branches i .loop2 .place .symbol + j) (omega (arith, w .low)) (omega (arith, w .low))))),
+    let a = c .along .ensures in
+    let w = reached x in (
+      in-along (kept-in i .ready .usable .table) w (inside-end t) _ a,
+      e .0 ∙ ap (visitOf _ _) (skipped x) ∙ sym (from-suc _ _ _ _ _ _ (omega (arith, w .low, ap (λ (p : Place). p .symbol) a)) _ (omega (arith, w .low))),
       e .1 .0,
       e .1 .1 ∙ i .loop3 .inv .3,
-      λ h. n .open-here (omega (arith, h, same-end w)),
     )
+
+loop3-less-2 : tie.Need-loop3-less-2 Inv-loop3 μ-loop3 Inv-loop2 μ-loop2 Inv-loop μ-loop
+loop3-less-2 c = let x = c .before .before .before in omega (arith, c .if4 .left, x .before .before .before .if3 .taken)
+
+loop3-again-2 : tie.Need-loop3-again-2 Inv-loop3 μ-loop3 Inv-loop2 μ-loop2 Inv-loop μ-loop
+loop3-again-2 c =
+    let x = c .before .before .before in
+    let i = looked x in
+    (reached x, skipped x, i .loop3 .inv .2, i .loop3 .inv .3)
 
 onward-requires : tie.Need-onward-requires Inv-loop3 μ-loop3 Inv-loop2 μ-loop2 Inv-loop μ-loop
 onward-requires c κs = let i = c .before .before .before in onward-fits (kept-in i .ready .usable .table) (i .loop3 .inv .0)
@@ -247,7 +254,7 @@ loop2-less : tie.Need-loop2-less Inv-loop3 μ-loop3 Inv-loop2 μ-loop2 Inv-loop 
 loop2-less c =
     let x = c .before in
     let i = x .before .before .before in
-    onward-less (kept-in i .ready .usable .table) (i .loop3 .inv .0) (omega (arith, x .if3 .left, same-end (i .loop3 .inv .0))) _ (c .onward .ensures) _ (i .before .before .before .before .if2 .taken)
+    onward-less (kept-in i .ready .usable .table) (i .loop3 .inv .0) (omega (arith, x .if3 .left, same-end (i .loop3 .inv .0))) _ (c .onward .ensures) _ (i .before .if2 .taken)
 
 loop2-again : tie.Need-loop2-again Inv-loop3 μ-loop3 Inv-loop2 μ-loop2 Inv-loop μ-loop
 loop2-again c =
@@ -293,7 +300,7 @@ loop-again c =
       l .loop2 .inv .2,
       pass-kept x,
       ap (λ (ts : List ℕ). passesFrom (codeAt (outer l)) (o .count + 1) ts (within l)) (e .2)
-          ∙ sym (pass-idle (codeAt (outer l)) (o .count) (o .p) (l .loop2 .place .symbol) ths (between (outer l)) (within l) (omega arith) (all-visited x) (l .loop2 .inv .1) (omega (arith, c .before .before .if4 .taken)))
+          ∙ sym (pass-idle (codeAt (outer l)) (o .count) (o .p) (l .loop2 .place .symbol) ths (between (outer l)) (within l) (omega arith) (all-visited x) (l .loop2 .inv .1) (omega (arith, c .before .before .if5 .taken)))
           ∙ o .inv .4,
       l .loop2 .inv .3 ∙ o .inv .5,
     )
@@ -311,7 +318,7 @@ loop-again-2 c =
       omega arith,
       l .loop2 .inv .2,
       pass-kept x,
-      sym (pass-changed (codeAt (outer l)) (o .count) (o .p) (l .loop2 .place .symbol) (start (outer l) .args .thresholds .now) (between (outer l)) (within l) (omega arith) (all-visited x) (l .loop2 .inv .1) (c .if4 .left))
+      sym (pass-changed (codeAt (outer l)) (o .count) (o .p) (l .loop2 .place .symbol) (start (outer l) .args .thresholds .now) (between (outer l)) (within l) (omega arith) (all-visited x) (l .loop2 .inv .1) (c .if5 .left))
           ∙ o .inv .4,
       l .loop2 .inv .3 ∙ o .inv .5,
     )
@@ -404,13 +411,14 @@ run-counted-spec =
     shared-slice-read-threshold
     opening-requires
     loop2-holds
-    open-from-requires
     loop3-holds
+    open-from-requires
     visit-requires
-    add-open-from
-    open-from-requires-2
+    along-requires
     loop3-less
     loop3-again
+    loop3-less-2
+    loop3-again-2
     onward-requires
     loop2-less
     loop2-again
