@@ -3,30 +3,37 @@ use mathlib.Core.Path.{_≡_, refl, sym, _∙_, subst}
 use mathlib.Core.Logic.{_≢_}
 use mathlib.Core.Bool.{Bool, true, false, not, _&&_}
 use mathlib.Core.List.{List, [], _∷_}
-use Prim.Native.Nat.{ℕ, zero, suc, _+_, _-_, _*_, _≤_, _<_}
+use Prim.Native.Nat.{ℕ, _+_, _≤_, _<_}
 use native.Mathlib.Numerals.{add-one}
-use native.Mathlib.Omega.{arith}
 use lib.Dec.{T, ltb, leb}
-use lib.ListN.{length, getD, take, drop, drop-of-length-le}
+use lib.ListN.{length, getD, drop, drop-of-length-le}
 use lib.Seq.{drop-cons}
-use Rattle.model.specs.Calls.{test, firstThatApplies, positionsFit, sizeTests, tableFits, tableTests, tableAnswer}
-use Rattle.model.specs.Code.{Code, checksEach, branchAt, everyBelow, selfOrthogonal, differences, allDifferent}
+use Rattle.model.specs.Calls.{Test, test, firstThatApplies, within, positionsFit, branchesFit, runsFit, sizeTests, tableFits}
+use Rattle.model.specs.Code.{Code, codeOf, branchAt, everyBelow, selfOrthogonal}
 use Rattle.model.specs.Limits.{SizeLimits, TableLimits}
-use Rattle.theory.specs.Answers.{refused-first, passed-first}
-use Rattle.theory.specs.Branches.{run-part, run-inside, orthogonal-differences}
-use Rattle.theory.specs.Counting.{is-true, is-false, All}
-use Rattle.theory.specs.Tables.{fit-cons, fit-test, every-facts, orthogonal-test}
-use Rattle.table.specs.Marks.{same-truth}
+use Rattle.theory.specs.Answers.{passed-by, refused-first, passed-first, sizes-taken}
+use Rattle.theory.specs.Counting.{is-true, is-false}
+use Rattle.theory.specs.Profiles.{laterTests}
+use Rattle.theory.specs.Tables.{fit-test, every-facts}
+
+-- tests 2, 10 and 3
+abbrev pub shapeTests : Code → List Test
+shapeTests c = test 2 (not (within 1 4096 (c .k))) ∷ test 10 (not (branchesFit c)) ∷ test 3 (not (runsFit c)) ∷ []
 
 -- within the limits of the sizes, tests 4 and 5 decide
-pub sized-answer : (c : Code) → firstThatApplies (sizeTests c) ≡ 0
-    → tableAnswer c ≡ firstThatApplies (test 4 (not (tableFits c)) ∷ test 5 (not (selfOrthogonal c)) ∷ [])
-unfolding tableAnswer tableTests sizeTests
-sized-answer c e = passed-first (sizeTests c) _ refl e
+pub sized-answer : (c : Code) → firstThatApplies (shapeTests c) ≡ 0
+    → firstThatApplies (laterTests c) ≡ firstThatApplies (test 4 (not (tableFits c)) ∷ test 5 (not (selfOrthogonal c)) ∷ [])
+sized-answer c e = passed-first (shapeTests c) (test 4 (not (tableFits c)) ∷ test 5 (not (selfOrthogonal c)) ∷ []) refl e
 
-pub unsized-answer : (c : Code) → firstThatApplies (sizeTests c) ≢ 0 → tableAnswer c ≡ firstThatApplies (sizeTests c)
-unfolding tableAnswer tableTests
-unsized-answer c n = refused-first (sizeTests c) _ n
+pub unsized-answer : (c : Code) → firstThatApplies (shapeTests c) ≢ 0 → firstThatApplies (laterTests c) ≡ firstThatApplies (shapeTests c)
+unsized-answer c n = refused-first (shapeTests c) (test 4 (not (tableFits c)) ∷ test 5 (not (selfOrthogonal c)) ∷ []) n
+
+-- and so they are within them
+pub shape-taken : (c : Code) → firstThatApplies (shapeTests c) ≡ 0 → SizeLimits c
+unfolding sizeTests within
+shape-taken c e =
+    let z = sizes-taken (codeOf 3 (c .k) (c .b) (c .positions)) (passed-by 1 true (shapeTests c) refl ∙ e) in
+    record { k-low = z .k-low; k-high = z .k-high; b-low = z .b-low; b-high = z .b-high; data-high = z .data-high; runs = z .runs; J-low = z .J-low; J-high = z .J-high }
 
 -- ---- the positions, the loop's way
 
@@ -39,41 +46,7 @@ pub fit-end : (k least : ℕ) (ps : List ℕ) (i : ℕ) → length ps ≤ i → 
 unfolding positionsFit
 fit-end k least ps i h = rw (drop-of-length-le ps h)
 
--- ---- what positions that pass are
-
--- from `least`, and so from `low`, to k
-pub fit-above : (k low least : ℕ) → low ≤ least → (ps : List ℕ) → positionsFit k least ps ≡ true → All (λ a. (low ≤ a) × (a < k)) ps
-fit-above k low least h [] t = tt
-fit-above k low least h (p ∷ ps) t =
-    let f = fit-cons k least p ps t in
-    ((omega (arith, f .0), f .1), fit-above k low (suc p) (omega (arith, f .0)) ps (f .2))
-
-pub fit-at : (k least : ℕ) (ps : List ℕ) → positionsFit k least ps ≡ true → (i : ℕ) → i < length ps → (least ≤ getD ps i 0) × (getD ps i 0 < k)
-fit-at k least [] t i h = absurd (omega arith)
-fit-at k least (p ∷ ps) t zero h = let f = fit-cons k least p ps t in (f .0, f .1)
-fit-at k least (p ∷ ps) t (suc i) h =
-    let f = fit-cons k least p ps t in
-    let g = fit-at k (suc p) ps (f .2) i (omega arith) in
-    (omega (arith, f .0, g .0), g .1)
-
--- those after position i are above it
-pub fit-later : (k least : ℕ) (ps : List ℕ) → positionsFit k least ps ≡ true → (i : ℕ) → i < length ps → positionsFit k (getD ps i 0 + 1) (drop (i + 1) ps) ≡ true
-fit-later k least ps t i h = rw (add-one i, add-one (getD ps i 0)) (go least ps t i h)
-  where
-    go : (least : ℕ) (ps : List ℕ) → positionsFit k least ps ≡ true → (i : ℕ) → i < length ps → positionsFit k (suc (getD ps i 0)) (drop (suc i) ps) ≡ true
-    go least [] t i h = absurd (omega arith)
-    go least (p ∷ ps) t zero h = fit-cons k least p ps t .2
-    go least (p ∷ ps) t (suc i) h = go (suc p) ps (fit-cons k least p ps t .2) i (omega arith)
-
 -- ---- all runs
-
--- run r as it is lent: `each` positions from `at` on
-module _ (c : Code) (r at each : ℕ) (e : at ≡ r * checksEach c) (f : each ≡ checksEach c) where
-  pub run-lent : take (at + each - at) (drop at (c .positions)) ≡ branchAt c r
-  run-lent = rw f (run-part c r at e)
-
-  pub lent-inside : SizeLimits c → r < c .b → at + each ≤ length (c .positions)
-  lent-inside s h = omega (arith, run-inside c s r h, e, f)
 
 -- a test of each run, the loop's way
 pub every-go : (n : ℕ) (f : ℕ → Bool) → everyBelow n f ≡ true → f n ≡ true → everyBelow (n + 1) f ≡ true
@@ -89,10 +62,3 @@ fitting-limits c s t = record {
   sizes = s;
   ascending = (λ r h. fit-test (c .k) (branchAt c r) .0 (is-true _ (every-facts (c .b) (λ r. positionsFit (c .k) 0 (branchAt c r)) (subst T (sym t) tt) r h)));
 }
-
--- what the differences tell
-pub orthogonal-told : (c : Code) → TableLimits c → (r : Bool) → r ≡ allDifferent (differences c) → r ≡ selfOrthogonal c
-orthogonal-told c l r d =
-    let test = orthogonal-test c in
-    let differ = orthogonal-differences c l in
-    d ∙ same-truth (allDifferent (differences c)) (selfOrthogonal c) (λ t. test .1 (differ .1 t)) (λ t. differ .0 (test .0 t))

@@ -1,56 +1,33 @@
--- `table_answer` walks the list of tests: the sizes first, then 4 and 5.
+-- `table_answer`: test 1, and then those of the shape.
 use borrow.Author.Needs.{needs}
 use borrow.Author.Tests.{not-true, not-false}
-use mathlib.Core.Path.{_≡_, sym, _∙_}
-use Rattle.model.specs.Calls.{firstThatApplies, sizeTests}
-use Rattle.params.specs.Codes.{codeBy}
-use Rattle.theory.specs.Answers.{refused-by, passed-by, nothing-applies, sizes-taken}
-use Rattle.table.specs.Table.{sized-answer, unsized-answer, fitting-limits}
+use mathlib.Core.Path.{sym, _∙_}
+use Rattle.model.specs.Calls.{tableAnswer, tableTests, sizeTests}
+use Rattle.theory.specs.Answers.{refused-by, passed-by}
 use Rattle.table.proofs.table_answer.Statement.{statement}
 use Rattle.table.proofs.table_answer.Tie as tie
 
-sizes-answer-requires : tie.Need-sizes-answer-requires
-sizes-answer-requires c κs = search needs
+q-fits-requires : tie.Need-q-fits-requires
+q-fits-requires c κs = search needs
 
 returns : tie.Need-returns
-returns c = let e = c .before .sizes-answer .ensures in e ∙ sym (unsized-answer _ (λ z. c .if1 .taken (e ∙ z)))
+unfolding tableAnswer tableTests sizeTests
+returns c = sym (refused-by 1 _ _ (sym (c .before .q-fits .ensures) ∙ not-true _ (c .if1 .taken)))
 
--- the sizes are within their limits
-sized : (c : tie.Else1) → let a = c .before .before .before .args in firstThatApplies (sizeTests (codeBy (a .code) (a .positions .now))) ≡ 0
-sized c = sym (c .before .sizes-answer .ensures) ∙ c .if1 .left
-
-table-fits-requires : tie.Need-table-fits-requires
-table-fits-requires c κs = sizes-taken _ (sized c)
+shape-answer-requires : tie.Need-shape-answer-requires
+shape-answer-requires c κs = search needs
 
 returns-2 : tie.Need-returns-2
-returns-2 c = sym (sized-answer _ (sized (c .before .before)) ∙ refused-by 4 _ _ (sym (c .before .table-fits .ensures) ∙ not-true _ (c .if2 .taken)))
-
-self-orthogonal-requires : tie.Need-self-orthogonal-requires
-self-orthogonal-requires c κs = fitting-limits _ (sizes-taken _ (sized (c .before .before))) (sym (c .before .table-fits .ensures) ∙ not-false _ (c .if2 .left))
-
-returns-3 : tie.Need-returns-3
-returns-3 c =
-    let two = c .before .before in
-    sym (sized-answer _ (sized (two .before .before))
-    ∙ passed-by 4 _ _ (sym (two .before .table-fits .ensures) ∙ not-false _ (two .if2 .left))
-    ∙ refused-by 5 _ _ (sym (c .before .self-orthogonal .ensures) ∙ not-true _ (c .if3 .taken)))
-
-returns-4 : tie.Need-returns-4
-returns-4 c =
-    let two = c .before .before in
-    sym (sized-answer _ (sized (two .before .before))
-    ∙ passed-by 4 _ _ (sym (two .before .table-fits .ensures) ∙ not-false _ (two .if2 .left))
-    ∙ passed-by 5 _ _ (sym (c .before .self-orthogonal .ensures) ∙ not-false _ (c .if3 .left))
-    ∙ nothing-applies)
+unfolding tableAnswer tableTests sizeTests
+returns-2 c =
+    let one = c .before in
+    c .shape-answer .ensures ∙ sym (passed-by 1 _ _ (sym (one .before .q-fits .ensures) ∙ not-false _ (one .if1 .left)))
 
 pub table-answer-spec : {M : Type 1} → statement M
 table-answer-spec =
     tie.close
     (tie.spec
-    sizes-answer-requires
+    q-fits-requires
     returns
-    table-fits-requires
-    returns-2
-    self-orthogonal-requires
-    returns-3
-    returns-4)
+    shape-answer-requires
+    returns-2)

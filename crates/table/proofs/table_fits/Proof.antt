@@ -10,7 +10,8 @@ use lib.ListN.{length}
 use Rattle.model.specs.Calls.{positionsFit}
 use Rattle.model.specs.Code.{checksEach, branchAt, everyBelow}
 use Rattle.params.specs.Codes.{codeBy}
-use Rattle.table.specs.Table.{run-lent, lent-inside, every-go, every-stop}
+use Rattle.differences.specs.Positions.{run-lent, lent-inside}
+use Rattle.table.specs.Table.{every-go, every-stop}
 use Rattle.table.proofs.table_fits.Statement.{statement}
 use Rattle.table.proofs.table_fits.Tie as tie
 

@@ -19,8 +19,8 @@ use Rattle.theory.specs.Circulant.{pairCount, same-iff}
 use Rattle.theory.specs.Counting.{same-yes, same-no, same-le, sumOver-add, sum-ext, sum-add, All, all-at}
 use Rattle.theory.specs.Modulo.{sub-self, sub-no-borrow, sub-borrow}
 use Rattle.theory.specs.Tables.{count-append, count-join, fit-cons, fit-test}
-use Rattle.table.specs.Marks.{marksOf, mark, mark-append, mark-none, fresh-once, same-truth}
-use Rattle.table.specs.Table.{fit-above}
+use Rattle.differences.specs.Marks.{marksOf, mark, mark-append, mark-none, fresh-once, same-truth}
+use Rattle.differences.specs.Positions.{fit-above}
 
 -- of a difference d and its opposite the smaller
 abbrev pub fold : ℕ → ℕ → ℕ

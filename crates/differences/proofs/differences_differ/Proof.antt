@@ -10,11 +10,11 @@ use lib.ListN.{length, take, drop, set, length-set}
 use Rattle.model.specs.Code.{checksEach, branchAt, differences, allDifferent}
 use Rattle.model.specs.Symbols.{joinBelow}
 use Rattle.params.specs.Codes.{codeBy}
-use Rattle.table.specs.Marks.{Marks, marksOf, mark, join-none, join-go, join-stop}
-use Rattle.table.specs.Table.{run-lent, lent-inside}
-use Rattle.table.specs.Folded.{foldedBy, runFolded, allFolded, run-fits, marks-tell, half-flag}
-use Rattle.table.proofs.differences_differ.Statement.{statement}
-use Rattle.table.proofs.differences_differ.Tie as tie
+use Rattle.differences.specs.Marks.{Marks, marksOf, mark, join-none, join-go, join-stop}
+use Rattle.differences.specs.Positions.{run-lent, lent-inside}
+use Rattle.differences.specs.Folded.{foldedBy, runFolded, allFolded, run-fits, marks-tell, half-flag}
+use Rattle.differences.proofs.differences_differ.Statement.{statement}
+use Rattle.differences.proofs.differences_differ.Tie as tie
 
 abbrev Inv-loop : tie.InvT-loop
 Inv-loop code positions seen₀ half each at₀ marked₀ seen at marked =

@@ -5,11 +5,11 @@ use Prim.Native.Nat.{ℕ, _≤_, _-_, _+_}
 use native.Mathlib.Omega.{arith}
 use borrow.Author.Needs.{needs}
 use lib.ListN.{length, drop, length-set}
-use Rattle.table.specs.Marks.{mark, mark-new, mark-again}
-use Rattle.table.specs.Table.{fit-at}
-use Rattle.table.specs.Folded.{foldedFrom, from-turn, from-end}
-use Rattle.table.proofs.mark_from.Statement.{statement}
-use Rattle.table.proofs.mark_from.Tie as tie
+use Rattle.differences.specs.Marks.{mark, mark-new, mark-again}
+use Rattle.differences.specs.Positions.{fit-at}
+use Rattle.differences.specs.Folded.{foldedFrom, from-turn, from-end}
+use Rattle.differences.proofs.mark_from.Statement.{statement}
+use Rattle.differences.proofs.mark_from.Tie as tie
 
 abbrev Inv-loop : tie.InvT-loop
 Inv-loop k b later seen₀ l₀ seen l = (l ≤ length later) × (length seen ≡ length seen₀) × (mark (foldedFrom k b (drop l later)) seen ≡ mark (foldedFrom k b later) seen₀)

@@ -1,10 +1,10 @@
 -- `self_orthogonal`: each of the three sizes of cleared flags reaches half of its k, and the differences are all different where the table is self-orthogonal.
 use native.Mathlib.Omega.{arith}
 use Rattle.theory.specs.Parts.{cleared}
-use Rattle.table.specs.Table.{orthogonal-told}
+use Rattle.differences.specs.Positions.{orthogonal-told}
 use borrow.Author.Needs.{needs}
-use Rattle.table.proofs.self_orthogonal.Statement.{statement}
-use Rattle.table.proofs.self_orthogonal.Tie as tie
+use Rattle.differences.proofs.self_orthogonal.Statement.{statement}
+use Rattle.differences.proofs.self_orthogonal.Tie as tie
 
 slice-aggregate-differences-differ : tie.Need-slice-aggregate-differences-differ
 slice-aggregate-differences-differ c = search needs

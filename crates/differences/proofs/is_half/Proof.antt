@@ -3,8 +3,8 @@ use Prim.Native.Nat.{_+_}
 use native.Mathlib.Omega.{arith}
 use Rattle.theory.specs.Counting.{same-yes, same-no}
 use borrow.Author.Needs.{needs}
-use Rattle.table.proofs.is_half.Statement.{statement}
-use Rattle.table.proofs.is_half.Tie as tie
+use Rattle.differences.proofs.is_half.Statement.{statement}
+use Rattle.differences.proofs.is_half.Tie as tie
 
 add-if1 : tie.Need-add-if1
 add-if1 c = search needs

@@ -6,11 +6,11 @@ use native.Mathlib.Omega.{arith}
 use borrow.Author.Needs.{needs}
 use borrow.Author.Tests.{not-true, not-false}
 use lib.ListN.{length, drop, getD}
-use Rattle.table.specs.Marks.{marksOf, mark}
-use Rattle.table.specs.Table.{fit-later}
-use Rattle.table.specs.Folded.{foldedFrom, foldedBy, part-rest, marks-go, marks-stop, by-end}
-use Rattle.table.proofs.mark_run.Statement.{statement}
-use Rattle.table.proofs.mark_run.Tie as tie
+use Rattle.differences.specs.Marks.{marksOf, mark}
+use Rattle.differences.specs.Positions.{fit-later}
+use Rattle.differences.specs.Folded.{foldedFrom, foldedBy, part-rest, marks-go, marks-stop, by-end}
+use Rattle.differences.proofs.mark_run.Statement.{statement}
+use Rattle.differences.proofs.mark_run.Tie as tie
 
 abbrev Inv-loop : tie.InvT-loop
 Inv-loop k run seen₀ i₀ seen i = (i ≤ length run) × (length seen ≡ length seen₀) × (mark (foldedBy k (drop i run)) seen ≡ mark (foldedBy k run) seen₀)
