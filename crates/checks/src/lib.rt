@@ -1,13 +1,16 @@
-// A data symbol's place and its checks: which they are, the estimates and counts that the syndrome gives there, and a subtraction at them.
-// A data symbol is symbol j of a branch, whose run of positions is lent.
+// A data symbol's place and its checks: which they are, the estimates that the syndrome gives there, and a subtraction at them.
+// A data symbol is symbol j of a branch, whose run of positions is lent, or a number among all data symbols.
 use params::Params;
 ghost use mathlib.Core.Path.{_≡_};
 ghost use Prim.Native.Nat.{_+_, _-_, _%_, _<_, _≤_};
-ghost use lib.ListN.{length};
-ghost use Rattle.model.specs.Code.{checksBy};
-ghost use Rattle.model.specs.Symbols.{Below, count, symbolsAt, subtractAt};
+ghost use lib.ListN.{length, getD};
+ghost use Rattle.model.specs.Code.{dataCount, checksEach, checksBy};
+ghost use Rattle.model.specs.Symbols.{Below, subtractAt};
+ghost use Rattle.params.specs.Codes.{codeBy};
 ghost use Rattle.checks.specs.Checks.{AtChecks, estimatesBy};
-ghost use Rattle.checks.specs.Places.{alongPlace, onwardPlace};
+ghost use Rattle.checks.specs.Places.{AtTable, alongPlace, onwardPlace};
+ghost use Rattle.checks.specs.Numbers.{placeBy};
+ghost use Rattle.checks.specs.Estimates.{estimatesAt};
 
 // Where a data symbol stands: its number; its branch, which is the data symbols from `start` to before `end`; and the run of that
 // branch, which is the positions of the table from `first` to before `last`.
@@ -75,6 +78,27 @@ impl Place {
     }
 }
 
+// The place of a data symbol, found branch by branch: no division is needed.
+pub fn place_of(code: Params, each: usize, symbol: usize) -> Place
+    requires { ⌜ (1 ≤ code .k) × (code .k ≤ 4096) × (each ≤ 256) × (symbol < 4096) ⌝ }
+    ensures { λ r. ⌜ r ≡ placeBy (code .k) each symbol ⌝ }
+{
+    let k = code.k;
+    let mut start = 0;
+    let mut first = 0;
+    while start + k <= symbol {
+        start += k;
+        first += each;
+    }
+    Place {
+        symbol,
+        start,
+        end: start + k,
+        first,
+        last: first + each,
+    }
+}
+
 // a modulo k, by one comparison.
 fn wrapped(k: usize, a: usize) -> usize
     requires { ⌜ a < k + k ⌝ }
@@ -115,19 +139,26 @@ pub fn gather(code: Params, positions: &[u16], j: usize, own: u8, s: &[u8], es: 
     }
 }
 
-// How often v stands in the syndrome at the checks of data symbol j.
-pub fn count_at(code: Params, positions: &[u16], j: usize, v: u8, s: &[u8]) -> u8
-    requires { ⌜ AtChecks (code .k) (now positions) (now s) × (j < code .k) ⌝ }
-    ensures { λ r. ⌜ r ≡ count v (symbolsAt (now (s .entry)) (checksBy (code .k) (now (positions .entry)) j)) ⌝ }
+// The estimates of a data symbol by its number, from S and D.
+pub fn gather_symbol(
+    code: Params,
+    positions: &[u16],
+    symbol: usize,
+    s: &[u8],
+    d: &[u8],
+    es: &mut [u8],
+)
+    requires { ⌜ AtTable (codeBy code (now positions)) (now s)
+        × (length (now d) ≡ dataCount (codeBy code (now positions)))
+        × (symbol < dataCount (codeBy code (now positions)))
+        × (length (now es) ≡ checksEach (codeBy code (now positions)) + 1) ⌝ }
+    ensures { λ _. ⌜ now (es .exit) ≡ estimatesAt (codeBy code (now (positions .entry))) symbol (getD (now (d .entry)) symbol 0) (now (s .entry)) ⌝ }
 {
-    let mut n: u8 = 0;
-    let mut i = 0;
-    while i < positions.len() {
-        let c = check_of(code.k, j, positions[i]);
-        n += symbols::equal(v, s[c]);
-        i += 1;
-    }
-    n
+    let place = place_of(code, params::checks_each(code, positions.len()), symbol);
+    let first = place.first;
+    let last = place.last;
+    let index = symbol - place.start;
+    gather(code, &positions[first..last], index, d[symbol], s, es);
 }
 
 // h subtracted from the syndrome at each check of data symbol j.

@@ -28,7 +28,7 @@ use Rattle.theory.specs.Voting.{other-max}
 use Rattle.checks.specs.Checks.{AtChecks, estimatesBy}
 use Rattle.checks.specs.Places.{AtTable, Found, runAt}
 use Rattle.checks.specs.declared.Place.{Place}
-use Rattle.visits.specs.Estimates.{estimatesAt}
+use Rattle.checks.specs.Estimates.{estimatesAt}
 use Rattle.zeros.specs.Counts.{zeroCounts, zeroCounts-at}
 
 -- where every estimate is 0

@@ -26,7 +26,7 @@ fn subtract_symbol(code: Params, positions: &[u16], symbol: usize, h: u8, page: 
         (sub (code .q) (getD (dataOf (codeBy code (now (positions .entry))) (now (page .entry))) symbol 0) h)) ⌝ }
 {
     let n = params::data_count(code);
-    let place = grounds::place_of(code, params::checks_each(code, positions.len()), symbol);
+    let place = checks::place_of(code, params::checks_each(code, positions.len()), symbol);
     let first = place.first;
     let last = place.last;
     let index = symbol - place.start;

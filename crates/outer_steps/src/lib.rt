@@ -110,7 +110,7 @@ fn outer_step(
         return 0;
     }
     let each = params::checks_each(code, positions.len());
-    let place = grounds::place_of(code, each, step.symbol);
+    let place = checks::place_of(code, each, step.symbol);
     visits::change_at(
         code,
         positions,

@@ -8,7 +8,7 @@ ghost use Rattle.model.specs.Outer.{reliability};
 ghost use Rattle.params.specs.Codes.{codeBy};
 ghost use Rattle.checks.specs.Checks.{AtChecks, estimatesBy};
 ghost use Rattle.checks.specs.Places.{AtTable};
-ghost use Rattle.visits.specs.Estimates.{estimatesAt};
+ghost use Rattle.checks.specs.Estimates.{estimatesAt};
 
 // Of estimates.
 fn reliability_of(es: &[u8], e: u8) -> i32
@@ -44,7 +44,7 @@ pub fn reliability_at(
         × (symbol < dataCount (codeBy code (now positions))) ⌝ }
     ensures { λ r. ⌜ r ≡ reliability e (estimatesAt (codeBy code (now (positions .entry))) symbol (getD (now (d .entry)) symbol 0) (now (s .entry))) ⌝ }
 {
-    let place = grounds::place_of(code, params::checks_each(code, positions.len()), symbol);
+    let place = checks::place_of(code, params::checks_each(code, positions.len()), symbol);
     let first = place.first;
     let last = place.last;
     let index = symbol - place.start;

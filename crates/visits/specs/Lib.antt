@@ -1,5 +1,4 @@
 -- What the contracts of the visits cite, and their laws.
 pub mod Decisions
-pub mod Estimates
 pub mod Progress
 pub mod Settled

@@ -13,7 +13,7 @@ use Rattle.theory.specs.Codes.{Usable}
 use Rattle.theory.specs.Falling.{visit-no, visit-yes}
 use Rattle.theory.specs.Steps.{Sized, below-estimates}
 use Rattle.checks.specs.Places.{AtTable}
-use Rattle.visits.specs.Estimates.{estimatesAt}
+use Rattle.checks.specs.Estimates.{estimatesAt}
 use Rattle.visits.specs.Decisions.{toSubtract, subtract-zero, subtract-some, subtract-below}
 use Rattle.tally.specs.declared.Tally.{Tally}
 

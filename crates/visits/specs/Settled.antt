@@ -17,7 +17,7 @@ use Rattle.theory.specs.Counting.{count-cons, length-symbolsAt}
 use Rattle.checks.specs.declared.Place.{Place}
 use Rattle.zeros.specs.Counts.{zeroCounts, zeroCounts-at}
 use Rattle.visits.specs.Decisions.{subtract-by-zeros}
-use Rattle.visits.specs.Estimates.{estimatesAt}
+use Rattle.checks.specs.Estimates.{estimatesAt}
 use Rattle.visits.specs.Progress.{progress, visitOf, visit-left}
 use Rattle.tally.specs.declared.Tally.{Tally}
 

@@ -22,18 +22,7 @@ ghost use Rattle.visits.specs.Decisions.{toSubtract};
 ghost use Rattle.visits.specs.Progress.{progress, Ready, visitOf};
 ghost use Rattle.visits.specs.Settled.{Settling, Past, Settled, Open, FirstOpen, OpenFrom};
 
-// The vote over the estimates of symbol j of a branch, whose run of positions is lent and whose own difference is given.
-pub fn vote_at(code: Params, positions: &[u16], j: usize, own: u8, s: &[u8]) -> Vote
-    requires { ⌜ AtChecks (code .k) (now positions) (now s) × (j < code .k) ⌝ }
-    ensures { λ r. ⌜ r ≡ voteOf (estimatesBy (code .k) (now (positions .entry)) j own (now (s .entry))) ⌝ }
-{
-    let n = positions.len() + 1;
-    let mut es = [0u8; 33];
-    checks::gather(code, positions, j, own, s, &mut es[..n]);
-    vote::vote_over(&es[..n])
-}
-
-// The largest count of a value other than 0 among the estimates of symbol j of a branch.
+// The largest count of a value other than 0 among the estimates of symbol j of a branch, whose run of positions is lent and whose own difference is given.
 pub fn most_other_at(code: Params, positions: &[u16], j: usize, own: u8, s: &[u8]) -> u8
     requires { ⌜ AtChecks (code .k) (now positions) (now s) × (j < code .k) ⌝ }
     ensures { λ r. ⌜ r ≡ others (estimatesBy (code .k) (now (positions .entry)) j own (now (s .entry))) ⌝ }
@@ -96,7 +85,7 @@ fn vote_by(es: &[u8], counters: &mut [u8]) -> Vote
 }
 
 // h0 where estimates are a change at a threshold, else 0.
-fn decided(es: &[u8], threshold: u8, counters: &mut [u8]) -> u8
+pub fn decided(es: &[u8], threshold: u8, counters: &mut [u8]) -> u8
     requires { ⌜ (2 ≤ length (now es)) × (length (now es) ≤ 33) × Clear (now counters) ⌝ }
     ensures subtracts { λ r. ⌜ r ≡ toSubtract threshold (now (es .entry)) ⌝ }
     ensures kept { λ r. ⌜ now (counters .exit) ≡ now (counters .entry) ⌝ }

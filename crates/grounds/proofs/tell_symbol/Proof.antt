@@ -1,89 +1,89 @@
--- `tell_symbol`: the place that is found is that of the symbol, and its run gives the symbol's checks.
+-- `tell_symbol`: the part of the buffer that is told of holds the estimates.
 use borrow.Author.Needs.{needs}
 use mathlib.Core.Path.{_≡_, sym, _∙_, ap}
-use mathlib.Core.List.{List, _∷_}
-use Prim.Native.Nat.{ℕ, _-_}
+use mathlib.Core.List.{List, _++_}
+use Prim.Native.Nat.{ℕ, _+_}
 use native.Mathlib.Omega.{arith}
-use lib.ListN.{getD}
-use Rattle.model.specs.Code.{Code, checksBy, checksOf}
-use Rattle.model.specs.Symbols.{symbolsAt}
+use lib.ListN.{length, getD, take, drop, replicate, length-append}
+use lib.Seq.{length-take-le}
+use Rattle.model.specs.Code.{Code, checksOf}
+use Rattle.theory.specs.Branches.{checks-length}
+use Rattle.theory.specs.Counting.{length-symbolsAt}
 use Rattle.params.specs.Codes.{codeBy}
-use Rattle.checks.specs.Places.{runAt, Found, found}
-use Rattle.checks.specs.declared.Place.{Place}
-use Rattle.grounds.specs.Told.{toldOf, placed-by}
+use Rattle.checks.specs.Estimates.{estimatesAt, Gathered, gathered-at}
+use Rattle.grounds.specs.Told.{toldOf}
 use Rattle.grounds.proofs.tell_symbol.Statement.{statement}
 use Rattle.grounds.proofs.tell_symbol.Tie as tie
 
--- the start, from where the place is found, and the code
-abbrev start : tie.After-place-of → tie.Start
-start c = c .before .before .before .before .before
+-- the start, from where the estimates are gathered, the code and the estimates
+abbrev start : tie.After-gather-symbol → tie.Start
+start c = c .before .before .before .before .before .before
 
 abbrev codeAt : tie.Start → Code
 codeAt b = codeBy (b .args .code) (b .args .positions .now)
 
+abbrev told : tie.Start → List ℕ
+told b = estimatesAt (codeAt b) (b .args .symbol) (getD (b .args .d .now) (b .args .symbol) 0) (b .args .s .now)
+
 checks-each-requires : tie.Need-checks-each-requires
-checks-each-requires c κs = c .before .before .before .pre .0 .table .sizes .b-low
+checks-each-requires c κs = search needs
 
-place-of-requires : tie.Need-place-of-requires
-place-of-requires c κs =
-    let b = c .before .before .before .before in
-    let z = b .pre .0 .table .sizes in
-    (z .k-low, z .k-high, omega (arith, c .checks-each .ensures, z .J-high), omega (arith, b .pre .2, z .data-high))
+add-n : tie.Need-add-n
+add-n c = search needs
 
--- the place is that of the symbol, and what it is good for
-number : (c : tie.After-place-of) → c .place-of .result .symbol ≡ start c .args .symbol
-number c = ap (λ (p : Place). p .symbol) (c .place-of .ensures)
+array-borrow-prefix-es : tie.Need-array-borrow-prefix-es
+array-borrow-prefix-es c = search needs
 
-place : (c : tie.After-place-of) → Found (codeAt (start c)) (start c .args .s .now) (c .place-of .result)
-place c = let b = start c in found (b .pre .0) (placed-by (codeAt b) _ _ _ (c .before .checks-each .ensures) (b .pre .2) (c .place-of .ensures))
+slice-aggregate-gather-symbol : tie.Need-slice-aggregate-gather-symbol
+slice-aggregate-gather-symbol c =
+    sym (length-take-le _ _ (omega (arith, c .before .checks-each .ensures, c .before .before .before .before .before .pre .0 .table .sizes .J-high)))
 
-sub-index : tie.Need-sub-index
-sub-index c = omega (arith, place (c .before) .start-low, number (c .before))
+gather-symbol-requires : tie.Need-gather-symbol-requires
+gather-symbol-requires c κs =
+    let p = c .before .before .before .before .before .pre in
+    let e = c .before .checks-each .ensures in
+    (p .0, p .1, p .2, length-take-le _ _ (omega (arith, e, p .0 .table .sizes .J-high)) ∙ ap (λ (n : ℕ). n + 1) e)
 
-mul-tell : tie.Need-mul-tell
-mul-tell c = let g = place (c .before) in omega (arith, g .few, g .first-last)
+-- the part of the buffer that is read holds the estimates
+part : (c : tie.After-gather-symbol)
+    → let n = c .before .before .checks-each .result + 1 in
+    Gathered (told (start c)) (take n (c .gather-symbol .last .1 .1 .1 .1 .1 .0 ++ drop n (replicate 33 0))) n
+part c =
+    let b = start c in
+    gathered-at (codeAt b) (b .args .s .now) (b .pre .0) (b .args .symbol) (b .pre .2) _ _ _ _ (c .gather-symbol .ensures)
+    (ap (λ (n : ℕ). n + 1) (c .before .before .checks-each .ensures))
 
-sub-tell : tie.Need-sub-tell
-sub-tell c = place (c .before) .first-last
+array-share-prefix-es : tie.Need-array-share-prefix-es
+array-share-prefix-es c =
+    let g = c .before in
+    let b = start g in
+    simp length-append (omega (
+      arith,
+      ap length (g .gather-symbol .ensures),
+      length-symbolsAt (b .args .s .now) (checksOf (codeAt b) (b .args .symbol)),
+      checks-length (codeAt b) (b .pre .0 .table) (b .args .symbol) (b .pre .2),
+      g .before .before .checks-each .ensures,
+    ))
 
-part-tell-start : tie.Need-part-tell-start
-part-tell-start c = place (c .before) .first-last
-
-part-tell-end : tie.Need-part-tell-end
-part-tell-end c = place (c .before) .last-in
-
-shared-slice-read-tell : tie.Need-shared-slice-read-tell
-shared-slice-read-tell c = search needs
+slice-aggregate-tell : tie.Need-slice-aggregate-tell
+slice-aggregate-tell c = sym (part (c .before .before) .len)
 
 tell-requires : tie.Need-tell-requires
-tell-requires c κs =
-    let p = c .before .before .before in
-    let g = place p in
-    (g .checks-lent, omega (arith, g .index-low, number p))
+tell-requires c κs = let g = part (c .before .before) in (g .low, g .high)
 
 returns : tie.Need-returns
-returns c =
-    let p = c .before .before .before .before in
-    let b = start p in
-    let a = b .args in
-    let g = place p in
-    let own = getD (a .d .now) (a .symbol) 0 in
-    let index : a .symbol - p .place-of .result .start ≡ p .place-of .result .symbol - p .place-of .result .start = ap (λ (n : ℕ). n - p .place-of .result .start) (sym (number p)) in
-    c .tell .ensures
-    ∙ ap (λ (is : List ℕ). toldOf (a .threshold) (own ∷ symbolsAt (a .s .now) is))
-    (ap (checksBy (a .code .k) (runAt (p .place-of .result) (a .positions .now))) index ∙ g .checks-are ∙ ap (checksOf (codeAt b)) (number p))
+returns c = c .tell .ensures ∙ ap (λ (l : List ℕ). toldOf (start (c .before .before .before) .args .threshold) l) (part (c .before .before .before) .same)
 
 pub tell-symbol-spec : {M : Type 1} → statement M
 tell-symbol-spec =
     tie.close
     (tie.spec
     checks-each-requires
-    place-of-requires
-    sub-index
-    mul-tell
-    sub-tell
-    part-tell-start
-    part-tell-end
-    shared-slice-read-tell
+    add-n
+    array-borrow-prefix-es
+    slice-aggregate-gather-symbol
+    gather-symbol-requires
+    array-share-prefix-es
+    slice-aggregate-tell
     tell-requires
     returns)

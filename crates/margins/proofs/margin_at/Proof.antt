@@ -10,7 +10,7 @@ use Rattle.model.specs.Symbols.{count}
 use Rattle.model.specs.Vote.{margin}
 use Rattle.checks.specs.Checks.{estimatesBy}
 use Rattle.theory.specs.Margins.{count-le}
-use Rattle.visits.specs.Estimates.{estimates-length, zeros-counted}
+use Rattle.checks.specs.Estimates.{estimates-length, zeros-counted}
 use Rattle.margins.specs.Margins.{margin-firm, margin-but-one, others-few, read-back}
 use Rattle.margins.proofs.margin_at.Statement.{statement}
 use Rattle.margins.proofs.margin_at.Tie as tie

@@ -10,7 +10,7 @@ use Rattle.model.specs.Symbols.{subtractAt}
 use Rattle.params.specs.Codes.{codeBy}
 use Rattle.checks.specs.Places.{placeAt, runAt, Found, found}
 use Rattle.checks.specs.declared.Place.{Place}
-use Rattle.grounds.specs.Told.{placeBy}
+use Rattle.checks.specs.Numbers.{placeBy}
 use Rattle.outer_page.specs.Words.{data-inside, lent-length, lent-below, lent-symbol, page-less}
 use Rattle.outer_page.proofs.subtract_symbol.Statement.{statement}
 use Rattle.outer_page.proofs.subtract_symbol.Tie as tie

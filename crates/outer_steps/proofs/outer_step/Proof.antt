@@ -9,7 +9,7 @@ use Rattle.model.specs.Decoder.{State, stateBy, change}
 use Rattle.model.specs.Outer.{blockSum}
 use Rattle.params.specs.Codes.{codeBy}
 use Rattle.checks.specs.declared.Place.{Place}
-use Rattle.grounds.specs.Told.{placed-by}
+use Rattle.checks.specs.Numbers.{placed-by}
 use Rattle.outer_steps.specs.Blocks.{Made, made, not-made, stepped-made, weakest-in, at-block, sum-in}
 use Rattle.outer_steps.proofs.outer_step.Statement.{statement}
 use Rattle.outer_steps.proofs.outer_step.Tie as tie

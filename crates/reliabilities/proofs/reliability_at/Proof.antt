@@ -12,7 +12,7 @@ use Rattle.checks.specs.Places.{runAt, Found, found}
 use Rattle.checks.specs.declared.Place.{Place}
 use Rattle.margins.specs.Margins.{read-back}
 use Rattle.model.specs.Outer.{reliability}
-use Rattle.grounds.specs.Told.{placed-by}
+use Rattle.checks.specs.Numbers.{placed-by}
 use Rattle.reliabilities.proofs.reliability_at.Statement.{statement}
 use Rattle.reliabilities.proofs.reliability_at.Tie as tie
 

@@ -9,7 +9,7 @@ use lib.Seq.{length-take-le}
 use Rattle.checks.specs.Checks.{estimatesBy}
 use Rattle.margins.specs.Margins.{read-back}
 use Rattle.model.specs.Outer.{reliability}
-use Rattle.visits.specs.Estimates.{estimates-length, Gathered, gathered}
+use Rattle.checks.specs.Estimates.{estimates-length, Gathered, gathered}
 use Rattle.reliabilities.proofs.reliability_in.Statement.{statement}
 use Rattle.reliabilities.proofs.reliability_in.Tie as tie
 

@@ -12,7 +12,7 @@ use lib.Seq.{length-take-le}
 use Rattle.checks.specs.Checks.{estimatesBy}
 use Rattle.model.specs.Vote.{leadCount}
 use Rattle.visits.specs.Decisions.{toSubtract, subtract-by-lead}
-use Rattle.visits.specs.Estimates.{estimates-length, Gathered, gathered}
+use Rattle.checks.specs.Estimates.{estimates-length, Gathered, gathered}
 use Rattle.visits.proofs.full_vote.Statement.{statement}
 use Rattle.visits.proofs.full_vote.Tie as tie
 

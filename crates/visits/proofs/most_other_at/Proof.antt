@@ -8,7 +8,7 @@ use lib.ListN.{length, take, drop, replicate, length-append}
 use lib.Seq.{length-take-le}
 use Rattle.checks.specs.Checks.{estimatesBy}
 use Rattle.vote.specs.Others.{others}
-use Rattle.visits.specs.Estimates.{estimates-length, Gathered, gathered}
+use Rattle.checks.specs.Estimates.{estimates-length, Gathered, gathered}
 use Rattle.visits.proofs.most_other_at.Statement.{statement}
 use Rattle.visits.proofs.most_other_at.Tie as tie
 

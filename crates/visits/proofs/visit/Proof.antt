@@ -11,7 +11,7 @@ use Rattle.params.specs.Codes.{codeBy}
 use Rattle.checks.specs.Places.{Found, found}
 use Rattle.zeros.specs.Counts.{length-zeroCounts, zeroCounts-at}
 use Rattle.visits.specs.Decisions.{toSubtract}
-use Rattle.visits.specs.Estimates.{estimatesAt, zeros-counted}
+use Rattle.checks.specs.Estimates.{estimatesAt, zeros-counted}
 use Rattle.visits.specs.Progress.{both, at-table, ready-subtract, ready-symbol, changed-state, visit-left, visit-made}
 use Rattle.visits.proofs.visit.Statement.{statement}
 use Rattle.visits.proofs.visit.Tie as tie

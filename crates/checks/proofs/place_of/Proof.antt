@@ -1,9 +1,9 @@
 -- `place_of`: the branches before the symbol are passed one by one, each with its run.
 use Prim.Native.Nat.{_-_}
 use native.Mathlib.Omega.{arith}
-use Rattle.grounds.specs.Told.{Walked, walked-none, walked-on, walked-few, walked-here}
-use Rattle.grounds.proofs.place_of.Statement.{statement}
-use Rattle.grounds.proofs.place_of.Tie as tie
+use Rattle.checks.specs.Numbers.{Walked, walked-none, walked-on, walked-few, walked-here}
+use Rattle.checks.proofs.place_of.Statement.{statement}
+use Rattle.checks.proofs.place_of.Tie as tie
 
 abbrev Inv-loop : tie.InvT-loop
 Inv-loop each symbol k start₀ first₀ start first = Walked k each symbol start first
