@@ -1,5 +1,5 @@
 // The vote with one counter for each symbol value, on 256 lent counters.
-use vote::Lead;
+use vote::Commonest;
 use vote::Vote;
 ghost use mathlib.Core.Path.{_≡_};
 ghost use Prim.Native.Nat.{_<_, _≤_};
@@ -35,13 +35,13 @@ fn clear_each(es: &[u8], counters: &mut [u8])
 }
 
 // The leader of the estimates by the counters, and its count.
-fn leader_by(es: &[u8], counters: &[u8]) -> Lead
+fn leader_by(es: &[u8], counters: &[u8]) -> Commonest
     requires { ⌜ (0 < length (now es)) × (length (now counters) ≡ 256) ⌝ }
     ensures { λ r. ⌜ r ≡ leadBy (held (now (counters .entry))) (firstBy (held (now (counters .entry))) (getD (now (es .entry)) 0 0) (now (es .entry))) ⌝ }
 {
     let first = es[0];
     let lead = counters[first as usize];
-    let mut best = Lead {
+    let mut best = Commonest {
         value: first,
         count: lead,
     };

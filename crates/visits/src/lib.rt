@@ -117,7 +117,7 @@ fn full_vote(
     ensures subtracts { λ r. ⌜ r ≡ toSubtract threshold (estimatesBy (code .k) (now (positions .entry)) j own (now (syndrome .entry))) ⌝ }
     ensures kept { λ r. ⌜ now (counters .exit) ≡ now (counters .entry) ⌝ }
 {
-    if !leads::lead_above(code, positions, j, own, syndrome, zeros + threshold) {
+    if !quick_tests::lead_above(code, positions, j, own, syndrome, zeros + threshold) {
         return 0;
     }
     let n = positions.len() + 1;

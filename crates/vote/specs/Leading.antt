@@ -11,15 +11,15 @@ use Rattle.model.specs.Symbols.{choose, count}
 use Rattle.model.specs.Vote.{beforeBy, firstBy, otherBy, leader, leadCount, nextCount, zeroCount}
 use Rattle.theory.specs.Counting.{count-misses, count-other}
 use Rattle.theory.specs.Voting.{lead-max}
-use Rattle.vote.specs.declared.Lead.{Lead}
+use Rattle.vote.specs.declared.Commonest.{Commonest}
 use Rattle.vote.specs.declared.Vote.{Vote}
 
 -- a value with its count, by the count m of each value
-abbrev pub leadBy : (ℕ → ℕ) → ℕ → Lead
+abbrev pub leadBy : (ℕ → ℕ) → ℕ → Commonest
 leadBy m v = record { value = v; count = m v }
 
 -- a value, and how many of the estimates have it
-abbrev pub leadOf : List ℕ → ℕ → Lead
+abbrev pub leadOf : List ℕ → ℕ → Commonest
 leadOf es = leadBy (λ v. count v es)
 
 -- what the vote over estimates tells
@@ -32,7 +32,7 @@ module _ (m : ℕ → ℕ) where
   lead-choose false a b = refl
 
   -- the first of the leader so far and a candidate, each with its count
-  pub lead-first : (best : Lead) (b a n : ℕ) → best ≡ leadBy m b → n ≡ m a
+  pub lead-first : (best : Commonest) (b a n : ℕ) → best ≡ leadBy m b → n ≡ m a
       → choose (ltb (best .count) n || (eqb (best .count) n && ltb a (best .value))) (record { value = a; count = n }) best ≡ leadBy m (choose (beforeBy m a b) a b)
   lead-first best b a n e f = rw (e, f) (lead-choose (beforeBy m a b) a b)
 

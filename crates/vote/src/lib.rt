@@ -23,29 +23,29 @@ pub fn count_equal(es: &[u8], v: u8) -> u8
 }
 
 // A value, and how many estimates have it.
-pub struct Lead {
+pub struct Commonest {
     pub value: u8,
     pub count: u8,
 }
 
 // The first of the leader so far and a candidate with its count n: the commoner, in a tie the smaller.
-pub fn first_of(best: Lead, a: u8, n: u8) -> Lead
+pub fn first_of(best: Commonest, a: u8, n: u8) -> Commonest
     ensures { λ r. ⌜ r ≡ choose (ltb (best .count) n || (eqb (best .count) n && ltb a (best .value))) (record { value = a; count = n }) best ⌝ }
 {
     if n < best.count {
         return best;
     }
     if best.count < n {
-        return Lead { value: a, count: n };
+        return Commonest { value: a, count: n };
     }
     if a < best.value {
-        return Lead { value: a, count: n };
+        return Commonest { value: a, count: n };
     }
     best
 }
 
 // The first of the leader so far and one candidate, which is counted unless it is that leader.
-fn first_in(es: &[u8], best: Lead, a: u8) -> Lead
+fn first_in(es: &[u8], best: Commonest, a: u8) -> Commonest
     requires { ⌜ (length (now es) ≤ 255) × (best ≡ leadOf (now es) (best .value)) ⌝ }
     ensures { λ r. ⌜ r ≡ leadOf (now (es .entry)) (choose (goesBefore (now (es .entry)) a (best .value)) a (best .value)) ⌝ }
 {
@@ -57,12 +57,12 @@ fn first_in(es: &[u8], best: Lead, a: u8) -> Lead
 
 // The leader of the estimates, and its count. One that is more than half of them is found without a look at the rest: no other value
 // stands as often.
-fn leader_of(es: &[u8]) -> Lead
+fn leader_of(es: &[u8]) -> Commonest
     requires { ⌜ (0 < length (now es)) × (length (now es) ≤ 255) ⌝ }
     ensures { λ r. ⌜ r ≡ leadOf (now (es .entry)) (leader (now (es .entry))) ⌝ }
 {
     let first = es[0];
-    let mut best = Lead {
+    let mut best = Commonest {
         value: first,
         count: count_equal(es, first),
     };

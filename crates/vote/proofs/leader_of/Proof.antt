@@ -9,7 +9,7 @@ use lib.Seq.{take-all}
 use Rattle.model.specs.Symbols.{choose, count}
 use Rattle.model.specs.Vote.{goesBefore, firstOf, leader}
 use Rattle.theory.specs.Turns.{first-turn}
-use Rattle.vote.specs.declared.Lead.{Lead}
+use Rattle.vote.specs.declared.Commonest.{Commonest}
 use Rattle.vote.specs.Leading.{leadOf, first-none, more-than-half}
 use Rattle.vote.proofs.leader_of.Statement.{statement}
 use Rattle.vote.proofs.leader_of.Tie as tie
@@ -42,7 +42,7 @@ returns c =
     let b = c .before .before .before in
     let es : List ℕ = b .before .before .before .before .args .es .now in
     let v : ℕ = firstOf es (getD es 0 0) (take (b .loop .i) es) in
-    b .loop .inv .1 ∙ ap (λ (w : ℕ). leadOf es w) (more-than-half es v (omega (arith, ap (λ (l : Lead). l .count) (b .loop .inv .1), c .if1 .taken)))
+    b .loop .inv .1 ∙ ap (λ (w : ℕ). leadOf es w) (more-than-half es v (omega (arith, ap (λ (l : Commonest). l .count) (b .loop .inv .1), c .if1 .taken)))
 
 shared-slice-read-first-in : tie.Need-shared-slice-read-first-in Inv-loop μ-loop
 shared-slice-read-first-in c = omega arith
@@ -63,7 +63,7 @@ loop-again c =
     let a : ℕ = getD es (b .loop .i) 0 in (
       omega arith,
       c .first-in .ensures
-          ∙ ap (λ (l : Lead). leadOf es (choose (goesBefore es a (l .value)) a (l .value))) (b .loop .inv .1)
+          ∙ ap (λ (l : Commonest). leadOf es (choose (goesBefore es a (l .value)) a (l .value))) (b .loop .inv .1)
           ∙ ap (λ (v : ℕ). leadOf es v) (sym (first-turn (λ v. count v es) (getD es 0 0) es (b .loop .i) (omega arith))),
     )
 

@@ -3,8 +3,8 @@ use borrow.Author.Needs.{needs}
 use mathlib.Core.Path.{sym, subst}
 use native.Mathlib.Omega.{arith}
 use lib.Dec.{T}
-use Rattle.leads.proofs.is_before.Statement.{statement}
-use Rattle.leads.proofs.is_before.Tie as tie
+use Rattle.quick_tests.proofs.is_before.Statement.{statement}
+use Rattle.quick_tests.proofs.is_before.Tie as tie
 
 mul-result : tie.Need-mul-result
 mul-result c = search needs

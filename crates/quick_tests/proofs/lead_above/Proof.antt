@@ -10,9 +10,9 @@ use lib.ListN.{length, getD}
 use Rattle.checks.specs.Checks.{estimatesBy}
 use Rattle.model.specs.Vote.{leadCount}
 use Rattle.vote.specs.Counters.{Counted}
-use Rattle.leads.specs.Counting.{straight-at, turned-at, above-none, counted-own, few-at, more-at, above-at, within-at}
-use Rattle.leads.proofs.lead_above.Statement.{statement}
-use Rattle.leads.proofs.lead_above.Tie as tie
+use Rattle.quick_tests.specs.Counting.{straight-at, turned-at, above-none, counted-own, few-at, more-at, above-at, within-at}
+use Rattle.quick_tests.proofs.lead_above.Statement.{statement}
+use Rattle.quick_tests.proofs.lead_above.Tie as tie
 
 abbrev Inv-loop : tie.InvT-loop
 Inv-loop positions j own s bound counters₀ room i₀ counters i =
