@@ -9,7 +9,7 @@
 #   make board                  the charger example on an emulated Cortex-M4 board
 #   make test-c                 the C tests over the archive for x86-64
 #   make test-targets           the archives for the other processors: all built, four run under emulation
-#   make install PREFIX=..      header, archive and pkg-config file; TARGET=.. as above
+#   make install PREFIX=..      headers, archive and pkg-config file; TARGET=.. as above
 #   make bench                  the library against C, and decode in blocks against decode: times, and instructions a data
 #                               byte; TARGET=x86-64-v3 for AVX2
 #   make votes                  build/votes/libvotes.a, both votes alone, which bench/votes measures
@@ -24,8 +24,12 @@ TARGET_FLAGS =
 PYTHON = python3 -B
 CFLAGS = -std=c99 -O2 -Wall -Wextra -Werror
 
+# The export crates, one object each, and their headers.
+EXPORTS := $(shell awk '!/^\#/ { print $$1 }' targets/exports)
+HEADERS := $(addprefix include/,$(shell awk '!/^\#/ { print $$2 }' targets/exports | sort -u))
+
 # What the archive is made from: every crate but the test programs and the votes that are measured alone.
-SOURCES := $(shell find crates \( -path crates/reference -o -path crates/cases -o -path crates/votes \) -prune -o -type f -print) crates.txt
+SOURCES := $(shell find crates \( -path 'crates/reference*' -o -path crates/cases -o -path crates/votes \) -prune -o -type f -print) crates.txt
 VOTES_SOURCES := $(shell find crates/votes -type f)
 VERSION := $(shell awk '/define QMTD_VERSION_(MAJOR|MINOR|PATCH) / { v = v dot $$3; dot = "." } END { print v }' include/qmtd.h)
 TARGETS := $(shell awk '!/^\#/ { print $$1 }' targets/list)
@@ -47,22 +51,24 @@ $(shell mkdir -p build/$(TARGET); echo '$(TARGET_FLAGS)' | cmp -s - $(FLAGS) || 
 
 ifeq ($(TARGET)$(TARGET_FLAGS),x86-64)
 # rt's account of the proofs goes into build/prove.log, and is shown where it fails.
-$(ARCHIVE): $(SOURCES) $(FLAGS)
+$(ARCHIVE): $(SOURCES) $(FLAGS) targets/exports targets/join
 	@echo "building the archive .."
-	@$(RT) staticlib qmtd >build/prove.log 2>&1 || { cat build/prove.log; exit 1; }
-	cp target/staticlib/libqmtd.a $@
+	@for crate in $(EXPORTS); do \
+	  $(RT) staticlib $$crate >build/prove.log 2>&1 || { cat build/prove.log; exit 1; }; \
+	done
+	RT=$(RT) targets/join $@
 else
-$(ARCHIVE): build/qmtd.ll targets/archive targets/list $(FLAGS)
-	RT=$(RT) targets/archive $(TARGET) build/qmtd.ll $@ $(TARGET_FLAGS)
+$(ARCHIVE): $(EXPORTS:%=build/modules/%.ll) targets/archive targets/list targets/exports $(FLAGS)
+	RT=$(RT) targets/archive $(TARGET) build/modules $@ $(TARGET_FLAGS)
 endif
 
 # What the kit compiles for x86-64, before it does so.
-build/qmtd.ll: $(SOURCES) targets/module
-	@mkdir -p build
-	@echo "taking the module .."
-	@RT=$(RT) targets/module $@
+build/modules/%.ll: $(SOURCES) targets/module
+	@mkdir -p build/modules
+	@echo "taking the module of $* .."
+	@RT=$(RT) targets/module $* $@
 
-# The crate qmtd and those that it builds on, each after those it depends on; the first time this takes some minutes.
+# The export crates and those that they build on, each after those it depends on; the first time this takes some minutes.
 prove:
 	@mkdir -p build
 	@set -- $$(awk -F: '{ sub(/#.*/, "") } NF { gsub(/ /, "", $$1); deps[$$1] = $$2 } \
@@ -72,7 +78,7 @@ prove:
 	                      for (i = 1; i <= n; i++) add(on[i]); \
 	                      print crate \
 	                    } \
-	                    END { add("qmtd") }' crates.txt); \
+	                    END { n = split("$(EXPORTS)", crates, " "); for (i = 1; i <= n; i++) add(crates[i]) }' crates.txt); \
 	total=$$#; n=0; \
 	for crate do \
 	  n=$$((n + 1)); echo "[$$n/$$total] proving $$crate .."; \
@@ -86,7 +92,7 @@ demo screen:
 	@$(MAKE) -s build/$(EXAMPLE)
 	@build/$(EXAMPLE)
 
-build/charger build/screen: build/%: examples/%.c include/qmtd.h build/x86-64/libqmtd.a
+build/charger build/screen: build/%: examples/%.c $(HEADERS) build/x86-64/libqmtd.a
 	$(CC) $(CFLAGS) -Iinclude $< build/x86-64/libqmtd.a -o $@
 
 board:
@@ -103,7 +109,7 @@ test-targets:
 install: lib
 	sed -e 's|@PREFIX@|$(abspath $(PREFIX))|' -e 's|@VERSION@|$(VERSION)|' -e 's|@TARGET@|$(TARGET)|' qmtd.pc.in >build/$(TARGET)/qmtd.pc
 	install -d $(DESTDIR)$(PREFIX)/include $(DESTDIR)$(PREFIX)/lib/pkgconfig
-	install -m 644 include/qmtd.h $(DESTDIR)$(PREFIX)/include/
+	install -m 644 $(HEADERS) $(DESTDIR)$(PREFIX)/include/
 	install -m 644 $(ARCHIVE) $(DESTDIR)$(PREFIX)/lib/
 	install -m 644 build/$(TARGET)/qmtd.pc $(DESTDIR)$(PREFIX)/lib/pkgconfig/
 

@@ -1,10 +1,10 @@
-// The C forms of the calls that need no buffer but for the positions of the table: the table check, encode, encode in blocks, syndrome and open.
+// The C forms of the calls that need no buffer but for the positions of the table: the table check, encode, syndrome and open.
 ghost use mathlib.Core.Path.{_≡_};
 ghost use Rattle.model.specs.Code.{codeOf};
 ghost use Rattle.model.specs.Decoder.{stateBy};
-ghost use Rattle.model.specs.Calls.{tableAnswer, encodeOutcome, encodeOuterOutcome, syndromeOutcome, openOutcome};
+ghost use Rattle.model.specs.Calls.{tableAnswer, encodeOutcome, syndromeOutcome, openOutcome};
 ghost use Rattle.model.specs.Bytes.{positionsOf};
-ghost use Rattle.model.specs.Demand.{Encodes, EncodesOuter};
+ghost use Rattle.model.specs.Demand.{Encodes};
 
 // Checks a code table. A small table is read into a small buffer, which costs less to clear.
 pub fn check_table(q: u32, k: u32, b: u32, table: &[u8]) -> u32
@@ -34,30 +34,6 @@ pub fn encode(q: u32, k: u32, b: u32, table: &[u8], data: &[u8], page: &mut [u8]
     let mut positions = [0u16; 256];
     let n = octets::read_positions(table, &mut positions);
     page::encode(q, k, b, &positions[..n], data, page)
-}
-
-// Encodes data in blocks, each with an outer check. A small table is read into a small buffer, which costs less to clear.
-pub fn encode_outer(
-    q: u32,
-    k: u32,
-    b: u32,
-    table: &[u8],
-    block: u32,
-    data: &[u8],
-    page: &mut [u8],
-) -> u32
-    ensures outcome { λ r. ⌜ record { number = r; left = now (page .exit) }
-        ≡ encodeOuterOutcome (codeOf q k b (positionsOf (now (table .entry)))) block (now («data» .entry)) (now (page .entry)) ⌝ }
-    ensures word { λ r. ⌜ (r ≡ 0 → EncodesOuter (codeOf q k b (positionsOf (now (table .entry)))) block (now («data» .entry)) (now (page .exit))) ⌝ }
-{
-    if table.len() <= 64 {
-        let mut few = [0u16; 32];
-        let n = octets::read_positions(table, &mut few);
-        return outer_page::encode_outer(q, k, b, &few[..n], block, data, page);
-    }
-    let mut positions = [0u16; 256];
-    let n = octets::read_positions(table, &mut positions);
-    outer_page::encode_outer(q, k, b, &positions[..n], block, data, page)
 }
 
 // Works out the syndrome of a page. A small table is read into a small buffer, which costs less to clear.

@@ -1,19 +1,18 @@
-// The C calls, exported: each is the function of its C form.
+// The C calls on pages of bytes, exported: each is the function of its C form.
 ghost use mathlib.Core.Path.{_≡_};
 ghost use mathlib.Core.Bool.{true};
 ghost use Rattle.model.specs.Code.{codeOf};
 ghost use Rattle.model.specs.Decoder.{stateBy, decodedCounts};
-ghost use Rattle.model.specs.Outer.{outerCounts};
-ghost use Rattle.model.specs.Calls.{tableAnswer, encodeOutcome, encodeOuterOutcome, syndromeOutcome, openOutcome};
-ghost use Rattle.model.specs.Bytes.{positionsOf, cDecodeOutcome, cDecodeCountersOutcome, cDecodeOuterOutcome, cPassOutcome, cExplainOutcome};
-ghost use Rattle.model.specs.Demand.{Encodes, EncodesOuter, DecodeFalls, DecodeRecovers, OuterFalls, OuterRecovers, PassFalls};
+ghost use Rattle.model.specs.Calls.{tableAnswer, encodeOutcome, syndromeOutcome, openOutcome};
+ghost use Rattle.model.specs.Bytes.{positionsOf, cDecodeOutcome, cPassOutcome, cExplainOutcome};
+ghost use Rattle.model.specs.Demand.{Encodes, DecodeFalls, DecodeRecovers, PassFalls};
 
 // The version: major times 10,000 plus minor times 100 plus patch.
 #[no_mangle]
 pub extern "C" fn qmtd_version() -> u32
-    ensures { λ r. ⌜ r ≡ 901 ⌝ }
+    ensures { λ r. ⌜ r ≡ 902 ⌝ }
 {
-    901
+    902
 }
 
 // Checks a code table.
@@ -90,118 +89,6 @@ pub extern "C" fn qmtd_decode(
         k,
         b,
         table,
-        page,
-        thresholds,
-        result,
-        syndrome,
-        difference,
-        margins,
-        counts,
-    )
-}
-
-// Decode with 256 lent counters, all zero before and after.
-#[no_mangle]
-pub extern "C" fn qmtd_decode_counters(
-    q: u32,
-    k: u32,
-    b: u32,
-    table: &[u8],
-    page: &[u8],
-    thresholds: &[u8],
-    result: &mut [u8],
-    syndrome: &mut [u8],
-    difference: &mut [u8],
-    margins: &mut [u8],
-    counters: &mut [u8],
-    counts: &mut [u8],
-) -> u32
-    ensures outcome { λ r. ⌜ record {
-      given = record {
-        number = r;
-        left = record {
-          state = stateBy (now (result .exit)) (now (syndrome .exit)) (now (difference .exit));
-          margins = now (margins .exit);
-          counts = now (counts .exit);
-        };
-      };
-      counters = now (counters .exit);
-    } ≡ cDecodeCountersOutcome (codeOf q k b (positionsOf (now (table .entry)))) (now (page .entry)) (now (thresholds .entry))
-        (stateBy (now (result .entry)) (now (syndrome .entry)) (now (difference .entry))) (now (margins .entry)) (now (counters .entry)) (now (counts .entry)) ⌝ }
-    ensures falling { λ r. ⌜ (r ≡ 0 → DecodeFalls (codeOf q k b (positionsOf (now (table .entry)))) (now (thresholds .entry)) (now (page .entry))
-        (decodedCounts (codeOf q k b (positionsOf (now (table .entry)))) (now (thresholds .entry)) (now (page .entry)))) ⌝ }
-    ensures recovery { λ r. ⌜ (r ≡ 0 → DecodeRecovers (codeOf q k b (positionsOf (now (table .entry)))) (now (thresholds .entry)) (now (page .entry)) (now (result .exit))) ⌝ }
-{
-    c_counters::decode_counters(
-        q,
-        k,
-        b,
-        table,
-        page,
-        thresholds,
-        result,
-        syndrome,
-        difference,
-        margins,
-        counters,
-        counts,
-    )
-}
-
-// Encodes data in blocks, each with an outer check.
-#[no_mangle]
-pub extern "C" fn qmtd_encode_outer(
-    q: u32,
-    k: u32,
-    b: u32,
-    table: &[u8],
-    block: u32,
-    data: &[u8],
-    page: &mut [u8],
-) -> u32
-    ensures outcome { λ r. ⌜ record { number = r; left = now (page .exit) }
-        ≡ encodeOuterOutcome (codeOf q k b (positionsOf (now (table .entry)))) block (now («data» .entry)) (now (page .entry)) ⌝ }
-    ensures word { λ r. ⌜ (r ≡ 0 → EncodesOuter (codeOf q k b (positionsOf (now (table .entry)))) block (now («data» .entry)) (now (page .exit))) ⌝ }
-{
-    c_page::encode_outer(q, k, b, table, block, data, page)
-}
-
-// Decodes a page whose data was sent in blocks with an outer check.
-#[no_mangle]
-pub extern "C" fn qmtd_decode_outer(
-    q: u32,
-    k: u32,
-    b: u32,
-    table: &[u8],
-    block: u32,
-    page: &[u8],
-    thresholds: &[u8],
-    result: &mut [u8],
-    syndrome: &mut [u8],
-    difference: &mut [u8],
-    margins: &mut [u8],
-    counts: &mut [u8],
-) -> u32
-    ensures outcome { λ r. ⌜ record {
-      number = r;
-      left = record {
-        state = stateBy (now (result .exit)) (now (syndrome .exit)) (now (difference .exit));
-        margins = now (margins .exit);
-        counts = now (counts .exit);
-      };
-    } ≡ cDecodeOuterOutcome (codeOf q k b (positionsOf (now (table .entry)))) block (now (page .entry)) (now (thresholds .entry))
-        (stateBy (now (result .entry)) (now (syndrome .entry)) (now (difference .entry))) (now (margins .entry)) (now (counts .entry)) ⌝ }
-    ensures falling { λ r. ⌜ (r ≡ 0 → OuterFalls (codeOf q k b (positionsOf (now (table .entry)))) block (now (thresholds .entry)) (now (page .entry))
-        (outerCounts (codeOf q k b (positionsOf (now (table .entry)))) block (now (thresholds .entry)) (now (page .entry)))) ⌝ }
-    ensures recovery { λ r. ⌜ (r ≡ 0 → OuterRecovers (codeOf q k b (positionsOf (now (table .entry)))) block (now (thresholds .entry)) (now (page .entry)) (now (result .exit))
-        (outerCounts (codeOf q k b (positionsOf (now (table .entry)))) block (now (thresholds .entry)) (now (page .entry)))) ⌝ }
-{
-    c_outer::decode_outer(
-        q,
-        k,
-        b,
-        table,
-        block,
         page,
         thresholds,
         result,

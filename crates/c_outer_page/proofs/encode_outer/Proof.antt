@@ -11,8 +11,8 @@ use Rattle.model.specs.Demand.{EncodesOuter}
 use Rattle.octets.specs.Positions.{kept}
 use Rattle.octets.specs.Reads.{encode-outer-read, encodes-outer-read}
 use borrow.Author.Needs.{needs}
-use Rattle.c_page.proofs.encode_outer.Statement.{statement}
-use Rattle.c_page.proofs.encode_outer.Tie as tie
+use Rattle.c_outer_page.proofs.encode_outer.Statement.{statement}
+use Rattle.c_outer_page.proofs.encode_outer.Tie as tie
 
 -- what the contract says of the number r and the page that is left, x, with positions ps
 abbrev Holds : tie.Start → List ℕ → ℕ → List ℕ → Type 0

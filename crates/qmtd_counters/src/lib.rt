@@ -1,0 +1,54 @@
+// The C call that votes by lent counters, exported: it is the function of its C form.
+ghost use mathlib.Core.Path.{_≡_};
+ghost use Rattle.model.specs.Code.{codeOf};
+ghost use Rattle.model.specs.Decoder.{stateBy, decodedCounts};
+ghost use Rattle.model.specs.Bytes.{positionsOf, cDecodeCountersOutcome};
+ghost use Rattle.model.specs.Demand.{DecodeFalls, DecodeRecovers};
+
+// Decode with 256 lent counters, all zero before and after.
+#[no_mangle]
+pub extern "C" fn qmtd_decode_counters(
+    q: u32,
+    k: u32,
+    b: u32,
+    table: &[u8],
+    page: &[u8],
+    thresholds: &[u8],
+    result: &mut [u8],
+    syndrome: &mut [u8],
+    difference: &mut [u8],
+    margins: &mut [u8],
+    counters: &mut [u8],
+    counts: &mut [u8],
+) -> u32
+    ensures outcome { λ r. ⌜ record {
+      given = record {
+        number = r;
+        left = record {
+          state = stateBy (now (result .exit)) (now (syndrome .exit)) (now (difference .exit));
+          margins = now (margins .exit);
+          counts = now (counts .exit);
+        };
+      };
+      counters = now (counters .exit);
+    } ≡ cDecodeCountersOutcome (codeOf q k b (positionsOf (now (table .entry)))) (now (page .entry)) (now (thresholds .entry))
+        (stateBy (now (result .entry)) (now (syndrome .entry)) (now (difference .entry))) (now (margins .entry)) (now (counters .entry)) (now (counts .entry)) ⌝ }
+    ensures falling { λ r. ⌜ (r ≡ 0 → DecodeFalls (codeOf q k b (positionsOf (now (table .entry)))) (now (thresholds .entry)) (now (page .entry))
+        (decodedCounts (codeOf q k b (positionsOf (now (table .entry)))) (now (thresholds .entry)) (now (page .entry)))) ⌝ }
+    ensures recovery { λ r. ⌜ (r ≡ 0 → DecodeRecovers (codeOf q k b (positionsOf (now (table .entry)))) (now (thresholds .entry)) (now (page .entry)) (now (result .exit))) ⌝ }
+{
+    c_counters::decode_counters(
+        q,
+        k,
+        b,
+        table,
+        page,
+        thresholds,
+        result,
+        syndrome,
+        difference,
+        margins,
+        counters,
+        counts,
+    )
+}
