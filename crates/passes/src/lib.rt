@@ -51,7 +51,7 @@ fn run_counted(
         while place.symbol < symbols {
             let mut at = place;
             while at.symbol < place.end {
-                at = visits::open_from(at, each, threshold, difference, zeros);
+                at = open_symbols::open_from(at, each, threshold, difference, zeros);
                 if at.symbol < place.end {
                     tally = visits::visit(
                         code,

@@ -3,9 +3,9 @@ use mathlib.Core.Path.{_≡_, subst}
 use Prim.Native.Nat.{ℕ, _-_}
 use native.Mathlib.Omega.{arith}
 use borrow.Author.Needs.{needs}
-use Rattle.visits.specs.Settled.{FirstOpen, open-none, open-part, open-past}
-use Rattle.visits.proofs.first_open.Statement.{statement}
-use Rattle.visits.proofs.first_open.Tie as tie
+use Rattle.open_symbols.specs.Settled.{FirstOpen, open-none, open-part, open-past}
+use Rattle.open_symbols.proofs.first_open.Statement.{statement}
+use Rattle.open_symbols.proofs.first_open.Tie as tie
 
 abbrev Inv-loop : tie.InvT-loop
 Inv-loop each threshold difference zeros from end bound j₀ j = FirstOpen each threshold difference zeros from end j

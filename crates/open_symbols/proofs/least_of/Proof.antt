@@ -4,8 +4,8 @@ use native.Mathlib.Decide.{ℕ-discrete}
 use native.Mathlib.Omega.{arith}
 use borrow.Author.Needs.{needs}
 use lib.ListN.{length, getD}
-use Rattle.visits.proofs.least_of.Statement.{statement}
-use Rattle.visits.proofs.least_of.Tie as tie
+use Rattle.open_symbols.proofs.least_of.Statement.{statement}
+use Rattle.open_symbols.proofs.least_of.Tie as tie
 
 abbrev Inv-loop : tie.InvT-loop
 Inv-loop zeros least₀ i₀ least i = (j : ℕ) → j < i → least ≤ getD zeros j 0

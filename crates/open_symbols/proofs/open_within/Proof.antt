@@ -2,9 +2,9 @@
 use mathlib.Core.Path.{_≡_, subst}
 use Prim.Native.Nat.{ℕ, _+_, _-_, _<_, _≤_}
 use native.Mathlib.Omega.{arith}
-use Rattle.visits.specs.Settled.{FirstOpen, open-none, open-more}
-use Rattle.visits.proofs.open_within.Statement.{statement}
-use Rattle.visits.proofs.open_within.Tie as tie
+use Rattle.open_symbols.specs.Settled.{FirstOpen, open-none, open-more}
+use Rattle.open_symbols.proofs.open_within.Statement.{statement}
+use Rattle.open_symbols.proofs.open_within.Tie as tie
 
 abbrev Inv-loop : tie.InvT-loop
 Inv-loop each threshold bound difference zeros from end j₀ j = FirstOpen each threshold difference zeros from end j

@@ -1,8 +1,8 @@
 -- `open_from`: the place of the symbol that `first_open` finds.
 use borrow.Author.Needs.{needs}
 use mathlib.Core.Path.{refl}
-use Rattle.visits.proofs.open_from.Statement.{statement}
-use Rattle.visits.proofs.open_from.Tie as tie
+use Rattle.open_symbols.proofs.open_from.Statement.{statement}
+use Rattle.open_symbols.proofs.open_from.Tie as tie
 
 first-open-requires : tie.Need-first-open-requires
 first-open-requires c κs = search needs

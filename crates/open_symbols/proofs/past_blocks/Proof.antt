@@ -2,9 +2,9 @@
 use Prim.Native.Nat.{_-_}
 use native.Mathlib.Omega.{arith}
 use borrow.Author.Needs.{needs}
-use Rattle.visits.specs.Settled.{Past, past-none, past-block}
-use Rattle.visits.proofs.past_blocks.Statement.{statement}
-use Rattle.visits.proofs.past_blocks.Tie as tie
+use Rattle.open_symbols.specs.Settled.{Past, past-none, past-block}
+use Rattle.open_symbols.proofs.past_blocks.Statement.{statement}
+use Rattle.open_symbols.proofs.past_blocks.Tie as tie
 
 abbrev Inv-loop : tie.InvT-loop
 Inv-loop bound zeros from end j₀ j = Past bound zeros from end j

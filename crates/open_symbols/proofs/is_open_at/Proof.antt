@@ -4,9 +4,9 @@ use mathlib.Core.Path.{sym}
 use native.Mathlib.Omega.{arith}
 use borrow.Author.Needs.{needs}
 use lib.ListN.{getD}
-use Rattle.visits.specs.Settled.{open-yes, open-no}
-use Rattle.visits.proofs.is_open_at.Statement.{statement}
-use Rattle.visits.proofs.is_open_at.Tie as tie
+use Rattle.open_symbols.specs.Settled.{open-yes, open-no}
+use Rattle.open_symbols.proofs.is_open_at.Statement.{statement}
+use Rattle.open_symbols.proofs.is_open_at.Tie as tie
 
 shared-slice-read-n : tie.Need-shared-slice-read-n
 shared-slice-read-n c = search needs

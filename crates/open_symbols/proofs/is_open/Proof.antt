@@ -3,8 +3,8 @@ use borrow.Author.Needs.{needs}
 use mathlib.Core.Path.{ap}
 use Prim.Native.Nat.{ℕ, _+_}
 use lib.Dec.{leb}
-use Rattle.visits.proofs.is_open.Statement.{statement}
-use Rattle.visits.proofs.is_open.Tie as tie
+use Rattle.open_symbols.proofs.is_open.Statement.{statement}
+use Rattle.open_symbols.proofs.is_open.Tie as tie
 
 equal-requires : tie.Need-equal-requires
 equal-requires c κs = search needs
