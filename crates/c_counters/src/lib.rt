@@ -46,7 +46,7 @@ pub fn decode_counters(
     let fit = answers::counters_fit(counters);
     let mut positions = [0u16; 256];
     let mut zeros = [0u8; 4096];
-    let n = octets::read_positions(table, &mut positions);
+    let n = position_bytes::read_positions(table, &mut positions);
     c_receiver::decode_into(
         fit,
         code,

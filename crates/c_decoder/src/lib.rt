@@ -42,7 +42,7 @@ pub fn decode(
     };
     if table.len() <= 64 {
         let mut few = [0u16; 32];
-        let n = octets::read_positions(table, &mut few);
+        let n = position_bytes::read_positions(table, &mut few);
         return c_sized::decode_sized(
             code,
             &few[..n],
@@ -56,7 +56,7 @@ pub fn decode(
         );
     }
     let mut positions = [0u16; 256];
-    let n = octets::read_positions(table, &mut positions);
+    let n = position_bytes::read_positions(table, &mut positions);
     c_sized::decode_sized(
         code,
         &positions[..n],

@@ -44,7 +44,7 @@ fn explain_into(
     if told.number != 0 {
         return told.number;
     }
-    octets::put_answer(
+    number_bytes::put_answer(
         answer,
         told.ground,
         told.leader,
@@ -80,7 +80,7 @@ pub fn explain(
     };
     if table.len() <= 64 {
         let mut few = [0u16; 32];
-        let n = octets::read_positions(table, &mut few);
+        let n = position_bytes::read_positions(table, &mut few);
         return explain_into(
             code,
             &few[..n],
@@ -93,7 +93,7 @@ pub fn explain(
         );
     }
     let mut positions = [0u16; 256];
-    let n = octets::read_positions(table, &mut positions);
+    let n = position_bytes::read_positions(table, &mut positions);
     explain_into(
         code,
         &positions[..n],

@@ -45,10 +45,10 @@ pub fn decode_outer(
     };
     let length = blocks::length_of(block);
     let mut none = [0u8; 0];
-    if octets::is_small(table.len(), params::data_count(code)) {
+    if position_bytes::is_small(table.len(), params::data_count(code)) {
         let mut few = [0u16; 32];
         let mut counted = [0u8; 128];
-        let n = octets::read_positions(table, &mut few);
+        let n = position_bytes::read_positions(table, &mut few);
         return c_receiver::decode_into(
             true,
             code,
@@ -67,7 +67,7 @@ pub fn decode_outer(
     }
     let mut positions = [0u16; 256];
     let mut zeros = [0u8; 4096];
-    let n = octets::read_positions(table, &mut positions);
+    let n = position_bytes::read_positions(table, &mut positions);
     c_receiver::decode_into(
         true,
         code,

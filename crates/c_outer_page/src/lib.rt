@@ -21,10 +21,10 @@ pub fn encode_outer(
 {
     if table.len() <= 64 {
         let mut few = [0u16; 32];
-        let n = octets::read_positions(table, &mut few);
+        let n = position_bytes::read_positions(table, &mut few);
         return outer_page::encode_outer(q, k, b, &few[..n], block, data, page);
     }
     let mut positions = [0u16; 256];
-    let n = octets::read_positions(table, &mut positions);
+    let n = position_bytes::read_positions(table, &mut positions);
     outer_page::encode_outer(q, k, b, &positions[..n], block, data, page)
 }

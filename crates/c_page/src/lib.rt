@@ -12,11 +12,11 @@ pub fn check_table(q: u32, k: u32, b: u32, table: &[u8]) -> u32
 {
     if table.len() <= 64 {
         let mut few = [0u16; 32];
-        let n = octets::read_positions(table, &mut few);
+        let n = position_bytes::read_positions(table, &mut few);
         return table::check_table(q, k, b, &few[..n]);
     }
     let mut positions = [0u16; 256];
-    let n = octets::read_positions(table, &mut positions);
+    let n = position_bytes::read_positions(table, &mut positions);
     table::check_table(q, k, b, &positions[..n])
 }
 
@@ -28,11 +28,11 @@ pub fn encode(q: u32, k: u32, b: u32, table: &[u8], data: &[u8], page: &mut [u8]
 {
     if table.len() <= 64 {
         let mut few = [0u16; 32];
-        let n = octets::read_positions(table, &mut few);
+        let n = position_bytes::read_positions(table, &mut few);
         return page::encode(q, k, b, &few[..n], data, page);
     }
     let mut positions = [0u16; 256];
-    let n = octets::read_positions(table, &mut positions);
+    let n = position_bytes::read_positions(table, &mut positions);
     page::encode(q, k, b, &positions[..n], data, page)
 }
 
@@ -43,11 +43,11 @@ pub fn syndrome(q: u32, k: u32, b: u32, table: &[u8], page: &[u8], syndrome: &mu
 {
     if table.len() <= 64 {
         let mut few = [0u16; 32];
-        let n = octets::read_positions(table, &mut few);
+        let n = position_bytes::read_positions(table, &mut few);
         return page::syndrome(q, k, b, &few[..n], page, syndrome);
     }
     let mut positions = [0u16; 256];
-    let n = octets::read_positions(table, &mut positions);
+    let n = position_bytes::read_positions(table, &mut positions);
     page::syndrome(q, k, b, &positions[..n], page, syndrome)
 }
 
@@ -68,10 +68,10 @@ pub fn open(
 {
     if table.len() <= 64 {
         let mut few = [0u16; 32];
-        let n = octets::read_positions(table, &mut few);
+        let n = position_bytes::read_positions(table, &mut few);
         return opener::open(q, k, b, &few[..n], page, result, syndrome, difference);
     }
     let mut positions = [0u16; 256];
-    let n = octets::read_positions(table, &mut positions);
+    let n = position_bytes::read_positions(table, &mut positions);
     opener::open(q, k, b, &positions[..n], page, result, syndrome, difference)
 }

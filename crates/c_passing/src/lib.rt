@@ -51,7 +51,7 @@ fn pass_into(
     if passed.number != 0 {
         return passed.number;
     }
-    octets::put_changes(changes, passed.changes);
+    number_bytes::put_changes(changes, passed.changes);
     0
 }
 
@@ -126,7 +126,7 @@ pub fn pass(
     };
     if table.len() <= 64 {
         let mut few = [0u16; 32];
-        let n = octets::read_positions(table, &mut few);
+        let n = position_bytes::read_positions(table, &mut few);
         return pass_sized(
             code,
             &few[..n],
@@ -138,7 +138,7 @@ pub fn pass(
         );
     }
     let mut positions = [0u16; 256];
-    let n = octets::read_positions(table, &mut positions);
+    let n = position_bytes::read_positions(table, &mut positions);
     pass_sized(
         code,
         &positions[..n],

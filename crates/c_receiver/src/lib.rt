@@ -60,7 +60,7 @@ pub fn decode_into(
         return decoded.number;
     }
     let tally = decoded.tally;
-    octets::put_margins(
+    margin_bytes::put_margins(
         code,
         positions,
         tally.end,
@@ -69,6 +69,6 @@ pub fn decode_into(
         difference,
         margins,
     );
-    octets::put_counts(counts, tally.passes, tally.changes, tally.start, tally.end);
+    number_bytes::put_counts(counts, tally.passes, tally.changes, tally.start, tally.end);
     0
 }

@@ -7,7 +7,7 @@ use lib.Seq.{length-take-le}
 use Rattle.model.specs.Bytes.{positionsOf, cDecodeOutcome, cDecodeCountersOutcome}
 use Rattle.model.specs.Code.{bytePages, codeOf}
 use Rattle.model.specs.Decoder.{stateBy}
-use Rattle.octets.specs.Reads.{decode-read}
+use Rattle.position_bytes.specs.Reads.{decode-read}
 use Rattle.theory.specs.Counters.{clear-made, fit-clear}
 use Rattle.theory.specs.InBlocks.{c-decode-done}
 use Rattle.c_counters.proofs.decode_counters.Statement.{statement}

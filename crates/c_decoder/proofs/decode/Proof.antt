@@ -11,8 +11,8 @@ use Rattle.model.specs.Calls.{Decoded}
 use Rattle.model.specs.Code.{bytePages, codeOf}
 use Rattle.model.specs.Decoder.{stateBy, decodedCounts}
 use Rattle.model.specs.Demand.{DecodeFalls, DecodeRecovers}
-use Rattle.octets.specs.Positions.{kept}
-use Rattle.octets.specs.Reads.{decode-read}
+use Rattle.position_bytes.specs.Positions.{kept}
+use Rattle.position_bytes.specs.Reads.{decode-read}
 use Rattle.theory.specs.InBlocks.{cDecodeForm, c-decode-done}
 use Rattle.c_decoder.proofs.decode.Statement.{statement}
 use Rattle.c_decoder.proofs.decode.Tie as tie

@@ -9,8 +9,8 @@ use Rattle.model.specs.Bytes.{positionsOf, cExplainOutcome}
 use Rattle.model.specs.Calls.{Outcome}
 use Rattle.model.specs.Code.{bytePages, codeOf}
 use Rattle.model.specs.Decoder.{stateBy}
-use Rattle.octets.specs.Positions.{kept}
-use Rattle.octets.specs.Reads.{explain-read}
+use Rattle.position_bytes.specs.Positions.{kept}
+use Rattle.position_bytes.specs.Reads.{explain-read}
 use Rattle.c_explainer.proofs.explain.Statement.{statement}
 use Rattle.c_explainer.proofs.explain.Tie as tie
 

@@ -14,8 +14,8 @@ use Rattle.model.specs.Decoder.{stateBy}
 use Rattle.model.specs.Demand.{OuterFalls, OuterRecovers}
 use Rattle.model.specs.Outer.{outerCounts}
 use Rattle.params.specs.Sizes.{sizes-fit}
-use Rattle.octets.specs.Positions.{kept, small-fits}
-use Rattle.octets.specs.Reads.{decode-read}
+use Rattle.position_bytes.specs.Positions.{kept, small-fits}
+use Rattle.position_bytes.specs.Reads.{decode-read}
 use Rattle.theory.specs.Counters.{none-clear, clear-made}
 use Rattle.theory.specs.InBlocks.{lengthOf, cDecodeForm, c-decode-outer-done}
 use Rattle.c_outer.proofs.decode_outer.Statement.{statement}

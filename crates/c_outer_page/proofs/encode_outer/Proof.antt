@@ -8,8 +8,8 @@ use Rattle.model.specs.Bytes.{positionsOf}
 use Rattle.model.specs.Calls.{encodeOuterOutcome}
 use Rattle.model.specs.Code.{bytePages, codeOf}
 use Rattle.model.specs.Demand.{EncodesOuter}
-use Rattle.octets.specs.Positions.{kept}
-use Rattle.octets.specs.Reads.{encode-outer-read, encodes-outer-read}
+use Rattle.position_bytes.specs.Positions.{kept}
+use Rattle.position_bytes.specs.Reads.{encode-outer-read, encodes-outer-read}
 use borrow.Author.Needs.{needs}
 use Rattle.c_outer_page.proofs.encode_outer.Statement.{statement}
 use Rattle.c_outer_page.proofs.encode_outer.Tie as tie

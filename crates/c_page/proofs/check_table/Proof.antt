@@ -7,8 +7,8 @@ use lib.Seq.{length-take-le}
 use Rattle.model.specs.Bytes.{positionsOf}
 use Rattle.model.specs.Calls.{tableAnswer}
 use Rattle.model.specs.Code.{bytePages, codeOf}
-use Rattle.octets.specs.Positions.{kept}
-use Rattle.octets.specs.Reads.{table-read}
+use Rattle.position_bytes.specs.Positions.{kept}
+use Rattle.position_bytes.specs.Reads.{table-read}
 use borrow.Author.Needs.{needs}
 use Rattle.c_page.proofs.check_table.Statement.{statement}
 use Rattle.c_page.proofs.check_table.Tie as tie

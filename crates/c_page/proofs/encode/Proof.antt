@@ -8,8 +8,8 @@ use Rattle.model.specs.Bytes.{positionsOf}
 use Rattle.model.specs.Calls.{encodeOutcome}
 use Rattle.model.specs.Code.{bytePages, codeOf}
 use Rattle.model.specs.Demand.{Encodes}
-use Rattle.octets.specs.Positions.{kept}
-use Rattle.octets.specs.Reads.{encode-read, encodes-read}
+use Rattle.position_bytes.specs.Positions.{kept}
+use Rattle.position_bytes.specs.Reads.{encode-read, encodes-read}
 use borrow.Author.Needs.{needs}
 use Rattle.c_page.proofs.encode.Statement.{statement}
 use Rattle.c_page.proofs.encode.Tie as tie

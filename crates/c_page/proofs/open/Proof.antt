@@ -8,8 +8,8 @@ use Rattle.model.specs.Bytes.{positionsOf}
 use Rattle.model.specs.Calls.{Outcome, openOutcome}
 use Rattle.model.specs.Code.{bytePages, codeOf}
 use Rattle.model.specs.Decoder.{State, stateBy}
-use Rattle.octets.specs.Positions.{kept}
-use Rattle.octets.specs.Reads.{open-read}
+use Rattle.position_bytes.specs.Positions.{kept}
+use Rattle.position_bytes.specs.Reads.{open-read}
 use borrow.Author.Needs.{needs}
 use Rattle.c_page.proofs.open.Statement.{statement}
 use Rattle.c_page.proofs.open.Tie as tie

@@ -7,8 +7,8 @@ use lib.Seq.{length-take-le}
 use Rattle.model.specs.Bytes.{positionsOf}
 use Rattle.model.specs.Calls.{Outcome, syndromeOutcome}
 use Rattle.model.specs.Code.{bytePages, codeOf}
-use Rattle.octets.specs.Positions.{kept}
-use Rattle.octets.specs.Reads.{syndrome-read}
+use Rattle.position_bytes.specs.Positions.{kept}
+use Rattle.position_bytes.specs.Reads.{syndrome-read}
 use borrow.Author.Needs.{needs}
 use Rattle.c_page.proofs.syndrome.Statement.{statement}
 use Rattle.c_page.proofs.syndrome.Tie as tie

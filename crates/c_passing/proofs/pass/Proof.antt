@@ -10,8 +10,8 @@ use Rattle.model.specs.Calls.{Passed}
 use Rattle.model.specs.Code.{bytePages, codeOf}
 use Rattle.model.specs.Decoder.{State, stateBy}
 use Rattle.model.specs.Demand.{PassFalls}
-use Rattle.octets.specs.Positions.{kept}
-use Rattle.octets.specs.Reads.{pass-whole}
+use Rattle.position_bytes.specs.Positions.{kept}
+use Rattle.position_bytes.specs.Reads.{pass-whole}
 use Rattle.c_passing.proofs.pass.Statement.{statement}
 use Rattle.c_passing.proofs.pass.Tie as tie
 

@@ -1,0 +1,2 @@
+-- The laws of margins that are written as bytes.
+pub mod Fronts

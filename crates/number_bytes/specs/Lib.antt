@@ -1,0 +1,2 @@
+-- The laws of numbers that are written as bytes.
+pub mod Words
