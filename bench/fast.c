@@ -16,10 +16,10 @@ decode_call CALL(decode);
 
 /* ---- The table ---- */
 
-/* The positions of a branch. */
+/* The positions of a branch; where zeros are kept, also k less each. */
 struct positions {
     size_t count;
-    size_t at[QMTD_MAX_J];
+    size_t at[QMTD_MAX_J], back[QMTD_MAX_J];
 };
 
 struct branches {
@@ -266,38 +266,6 @@ uint32_t CALL(syndrome)(uint32_t q, uint32_t k, uint32_t b, const uint8_t *table
 
 /* ---- Decoding ---- */
 
-/* Counts estimates that are not 0, and returns the largest count, with its value in the low byte. votes has a count for
- * each value, all 0 before. */
-static inline uint32_t count_votes(const uint8_t *estimates, size_t n, uint8_t *votes)
-{
-    uint32_t first = 0;
-    for (size_t a = 0; a < n; a++) {
-        uint32_t count = ++votes[estimates[a]] * 256u + estimates[a];
-        first = count > first ? count : first;
-    }
-    return first;
-}
-
-static inline void clear_votes(const uint8_t *estimates, size_t n, uint8_t *votes)
-{
-    for (size_t a = 0; a < n; a++)
-        votes[estimates[a]] = 0;
-}
-
-/* The value that leads all others by more than the threshold, or 0 if none does; zero itself has `zeros` votes.
- * The estimates here are those that are not 0. */
-static inline uint8_t vote(const uint8_t *estimates, size_t n, uint32_t zeros, uint32_t threshold, uint8_t *votes)
-{
-    uint32_t first = count_votes(estimates, n, votes), lead = first / 256, next = zeros;
-    uint8_t leader = (uint8_t)first;
-    if (lead > zeros + threshold)
-        for (size_t a = 0; a < n; a++)
-            if (estimates[a] != leader && votes[estimates[a]] > next)
-                next = votes[estimates[a]];
-    clear_votes(estimates, n, votes);
-    return lead > next + threshold ? leader : 0;
-}
-
 /* Where the checks of symbol j of a branch are, counted from j. The positions from `straight` on have wrapped. */
 struct offsets {
     size_t straight;
@@ -318,35 +286,202 @@ static inline void move_offsets(size_t k, const struct positions *positions, siz
         offsets->at[--offsets->straight] -= (ptrdiff_t)k;
 }
 
-/* The estimates of a symbol that are not 0; returns how many. */
-static inline size_t gather(uint8_t difference, const uint8_t *checks, const ptrdiff_t *offsets, size_t n,
-                            uint8_t *estimates)
+/* ---- The zeros of each symbol ---- */
+
+/* The zeros among the estimates of each symbol are kept. Those of a branch are two parts of k counts, so that no index
+ * wraps: check c counts by position p at k - p + c, which is k + j for symbol j, or j where its check has wrapped. The
+ * own difference counts at k + j. Counts are read eight at a time, so eight follow that are as high as any. */
+enum { MORE = 8, MAX_ZEROS = 2 * QMTD_MAX_DATA + MORE * QMTD_MAX_B };
+
+/* A number in each of eight bytes. */
+#define EIGHT(number) ((number) * UINT64_C(0x0101010101010101))
+
+static inline uint8_t *zeros_of(uint8_t *zeros, size_t k, size_t branch)
 {
-    size_t others = difference != 0;
-    estimates[0] = difference;
-    for (size_t a = 0; a < n; a++) {
-        uint8_t estimate = checks[offsets[a]];
-        estimates[others] = estimate;
-        others += estimate != 0;
-    }
-    return others;
+    return zeros + branch * (2 * k + MORE);
 }
 
-/* How many of the symbols at the offsets are 0. */
-static inline uint32_t zeros_at(const uint8_t *symbols, const ptrdiff_t *offsets, size_t n)
+static inline uint32_t zeros_at(const uint8_t *zeros, size_t k, size_t j)
 {
-    uint32_t zeros = 0, more = 0;
+    return (uint32_t)zeros[j] + zeros[k + j];
+}
+
+static void count_zeros(uint8_t *restrict zeros, const uint8_t *restrict syndrome, size_t n)
+{
+    for (size_t i = 0; i < n; i++)
+        zeros[i] = (uint8_t)(zeros[i] + (syndrome[i] == 0));
+}
+
+static void count_two_zeros(uint8_t *restrict zeros, const uint8_t *restrict one, const uint8_t *restrict other,
+                            size_t n)
+{
+    for (size_t i = 0; i < n; i++)
+        zeros[i] = (uint8_t)(zeros[i] + (one[i] == 0) + (other[i] == 0));
+}
+
+/* Counts the zeros of a branch whose differences are all 0, by two positions at a time, in straight runs. */
+static void start_zeros(size_t k, struct positions *positions, const uint8_t *syndrome, uint8_t *zeros)
+{
+    uint64_t more = EIGHT(QMTD_MAX_J + 1);
+    memset(zeros, 0, k);
+    memset(zeros + k, 1, k);
+    __builtin_memcpy(zeros + 2 * k, &more, MORE);
+
+    for (size_t a = 0; a < positions->count; a++)
+        positions->back[a] = k - positions->at[a];
+    size_t a = 0;
+    for (; a + 2 <= positions->count; a += 2) {
+        uint8_t *one = zeros + positions->back[a], *other = zeros + positions->back[a + 1];
+        size_t apart = (size_t)(one - other);
+        count_zeros(other, syndrome, apart);
+        count_two_zeros(one, syndrome, syndrome + apart, k - apart);
+        count_zeros(other + k, syndrome + (k - apart), apart);
+    }
+    if (a < positions->count)
+        count_zeros(zeros + positions->back[a], syndrome, k);
+}
+
+/* A byte for each of the eight symbols from j on: its highest bit tells whether the zeros reach the bound. Two
+ * counts are at most 66, so none overflows. */
+static inline uint64_t reach(const uint8_t *zeros, size_t k, size_t j, uint32_t bound)
+{
+    uint64_t wrapped, straight;
+    __builtin_memcpy(&wrapped, zeros + j, 8);
+    __builtin_memcpy(&straight, zeros + k + j, 8);
+    return wrapped + straight + EIGHT(128 - bound);
+}
+
+/* The same bits where they do not, and no others. */
+static inline uint64_t below(const uint8_t *zeros, size_t k, size_t j, uint32_t bound)
+{
+    return ~reach(zeros, k, j, bound) & EIGHT(128);
+}
+
+/* The first of the eight symbols that has its bit: x86-64 has a number's low byte first. */
+static inline size_t first_of(uint64_t bits)
+{
+    return (size_t)__builtin_ctzll(bits) / 8;
+}
+
+/* From symbol j on, if a block of 64 begins there, past the blocks in which all zeros reach the bound. */
+static inline size_t past_blocks(const uint8_t *zeros, size_t k, size_t j, uint32_t bound)
+{
+    if (j % 64 == 0)
+        for (; j + 64 <= k; j += 64) {
+            uint64_t all = EIGHT(128);
+            for (size_t i = 0; i < 64; i += 8)
+                all &= reach(zeros, k, j + i, bound);
+            if (all != EIGHT(128))
+                break;
+        }
+    return j;
+}
+
+/* Counts one zero more or less for each symbol of a branch in a check; zeros are from that check on. */
+static inline void recount(uint8_t *restrict zeros, const size_t *restrict back, size_t n, uint8_t change)
+{
     size_t a = 0;
     for (; a + 4 <= n; a += 4) {
-        zeros += symbols[offsets[a]] == 0;
-        more += symbols[offsets[a + 1]] == 0;
-        zeros += symbols[offsets[a + 2]] == 0;
-        more += symbols[offsets[a + 3]] == 0;
+        zeros[back[a]] += change;
+        zeros[back[a + 1]] += change;
+        zeros[back[a + 2]] += change;
+        zeros[back[a + 3]] += change;
     }
     for (; a < n; a++)
-        zeros += symbols[offsets[a]] == 0;
-    return zeros + more;
+        zeros[back[a]] += change;
 }
+
+/* ---- Votes ---- */
+
+static inline void fill(uint8_t *bytes, size_t n, uint8_t number)
+{
+    for (size_t i = 0; i < n; i++)
+        bytes[i] = number;
+}
+
+/* Counts the estimates; returns all counts, joined by or. */
+static inline uint8_t count_votes(uint8_t difference, const uint8_t *checks, const ptrdiff_t *offsets, size_t n,
+                                  uint8_t *votes)
+{
+    uint8_t counts = ++votes[difference];
+    size_t a = 0;
+    for (; a + 4 <= n; a += 4) {
+        counts |= ++votes[checks[offsets[a]]];
+        counts |= ++votes[checks[offsets[a + 1]]];
+        counts |= ++votes[checks[offsets[a + 2]]];
+        counts |= ++votes[checks[offsets[a + 3]]];
+    }
+    for (; a < n; a++)
+        counts |= ++votes[checks[offsets[a]]];
+    return counts;
+}
+
+/* The value that leads all others by more than the threshold, or 0 if none does; zero itself has `zeros` votes. Counts
+ * start so that one reaches 128 where its value leads zero by more than the threshold; most votes end without. */
+static inline uint8_t vote(uint8_t difference, const uint8_t *checks, const ptrdiff_t *offsets, size_t n,
+                           uint32_t zeros, uint32_t threshold)
+{
+    uint8_t votes[256];
+    uint32_t start = 127 - zeros - threshold;
+    fill(votes, 256, (uint8_t)start);
+    if (count_votes(difference, checks, offsets, n, votes) < 128)
+        return 0;
+
+    uint32_t first = votes[difference] * 256u + difference; /* the largest count, with its value in the low byte */
+    for (size_t a = 0; a < n; a++) {
+        uint32_t estimate = checks[offsets[a]], count = votes[estimate] * 256u + estimate;
+        first = count > first ? count : first;
+    }
+    uint32_t lead = first / 256, next;
+    uint8_t leader = (uint8_t)first;
+    if (2 * (lead - start) > n + 1 + threshold) /* even if all other estimates were equal */
+        return leader;
+
+    votes[leader] = 0;
+    next = votes[difference];
+    for (size_t a = 0; a < n; a++) {
+        uint32_t count = votes[checks[offsets[a]]];
+        next = count > next ? count : next;
+    }
+    return lead > next + threshold ? leader : 0;
+}
+
+/* The largest count of a value other than 0, of which there is one; zero is counted from -128 on. */
+static inline uint32_t most_other(uint8_t difference, const uint8_t *checks, const ptrdiff_t *offsets, size_t n)
+{
+    uint8_t votes[256];
+    fill(votes, 256, 0);
+    votes[0] = 128;
+    int8_t most = (int8_t)++votes[difference];
+    for (size_t a = 0; a < n; a++) {
+        int8_t count = (int8_t)++votes[checks[offsets[a]]];
+        most = count > most ? count : most;
+    }
+    return (uint32_t)most;
+}
+
+/* The same where two estimates are not 0: are they equal? */
+static inline uint32_t most_of_two(uint8_t difference, const uint8_t *checks, const ptrdiff_t *offsets, size_t n)
+{
+    uint8_t unequal = difference;
+    size_t a = 0;
+    for (; a + 4 <= n; a += 4) {
+        unequal ^= checks[offsets[a]];
+        unequal ^= checks[offsets[a + 1]];
+        unequal ^= checks[offsets[a + 2]];
+        unequal ^= checks[offsets[a + 3]];
+    }
+    for (; a < n; a++)
+        unequal ^= checks[offsets[a]];
+    return unequal == 0 ? 2 : 1;
+}
+
+/* ---- Passes ---- */
+
+/* The changes of all passes, and the distance: the symbols of syndrome and difference that are not 0. */
+struct tally {
+    uint32_t changes, distance;
+};
 
 /* By clang a pass takes fewer instructions where this is a function of its own, by gcc where it is not. */
 #ifdef __clang__
@@ -355,109 +490,108 @@ static inline uint32_t zeros_at(const uint8_t *symbols, const ptrdiff_t *offsets
 #define APART
 #endif
 
-/* The visits of one pass to one branch; returns their changes. Result and difference are the branch's. */
-APART static uint32_t visit_branch(uint8_t q, size_t k, const struct positions *restrict positions,
-                                   uint32_t threshold, uint8_t *restrict votes, uint8_t *restrict result,
-                                   uint8_t *restrict syndrome, uint8_t *restrict difference)
+/* The visits of one pass to one branch. Result and difference are the branch's, the zeros those of all. */
+APART static void visit_branch(uint8_t q, size_t k, const struct branches *restrict branches, size_t branch,
+                               uint32_t threshold, uint8_t *restrict result, uint8_t *restrict syndrome,
+                               uint8_t *restrict difference, uint8_t *restrict all_zeros, struct tally *tally)
 {
-    uint32_t changes = 0;
-    size_t n = positions->count;
+    const struct positions *positions = &branches->of[branch];
+    uint8_t *zeros = zeros_of(all_zeros, k, branch);
+    size_t n = positions->count, count = branches->count;
+    uint32_t changes = 0, gained = 0;
     struct offsets offsets;
     start_offsets(positions, &offsets);
 
-    for (size_t j = 0; j < k; j++) {
-        move_offsets(k, positions, j, &offsets);
+    /* Where zeros are this many, no value can lead them by more than the threshold. */
+    uint32_t bound = n + 1 < threshold ? 0 : (uint32_t)(n + 2 - threshold) / 2;
+    for (size_t from = past_blocks(zeros, k, 0, bound); from < k; from = past_blocks(zeros, k, from + 8, bound))
+        for (uint64_t open = below(zeros, k, from, bound), later; open != 0;) {
+            size_t j = from + first_of(open);
+            uint8_t *checks = syndrome + j;
+            move_offsets(k, positions, j, &offsets);
+            uint8_t h = vote(difference[j], checks, offsets.at, n, zeros_at(zeros, k, j), threshold);
+            later = ~(open ^ (open - 1));
+            open &= later;
+            if (h == 0)
+                continue;
 
-        /* Where zeros are this many, no value can lead them by more than the threshold. */
-        uint8_t *checks = syndrome + j;
-        uint32_t zeros = zeros_at(checks, offsets.at, n) + (difference[j] == 0);
-        if (n + 1 <= 2 * zeros + threshold)
-            continue;
-
-        uint8_t estimates[QMTD_MAX_J + 1];
-        size_t others = gather(difference[j], checks, offsets.at, n, estimates);
-        uint8_t h = vote(estimates, others, zeros, threshold, votes);
-        if (h == 0)
-            continue;
-
-        changes++;
-        result[j] = subtract(q, result[j], h);
-        difference[j] = subtract(q, difference[j], h);
-        for (size_t a = 0; a < n; a++)
-            checks[offsets.at[a]] = subtract(q, checks[offsets.at[a]], h);
-    }
-    return changes;
+            changes++;
+            result[j] = subtract(q, result[j], h);
+            uint8_t own = subtract(q, difference[j], h);
+            int change = (own == 0) - (difference[j] == 0);
+            difference[j] = own;
+            zeros[k + j] += (uint8_t)change;
+            gained += (uint32_t)change;
+            for (size_t a = 0; a < n; a++) {
+                uint8_t *check = checks + offsets.at[a], symbol = subtract(q, *check, h);
+                change = (symbol == 0) - (*check == 0);
+                *check = symbol;
+                gained += (uint32_t)change;
+                if (change != 0)
+                    for (size_t r = 0; r < count; r++)
+                        recount(zeros_of(all_zeros, k, r) + (check - syndrome), branches->of[r].back, n,
+                                (uint8_t)change);
+            }
+            open = below(zeros, k, from, bound) & later;
+        }
+    tally->changes += changes;
+    tally->distance -= gained;
 }
 
-/* One pass; returns its changes. */
-static uint32_t pass(uint8_t q, size_t k, const struct branches *branches, uint32_t threshold, uint8_t *votes,
-                     uint8_t *result, uint8_t *syndrome, uint8_t *difference)
+static void pass(uint8_t q, size_t k, const struct branches *branches, uint32_t threshold, uint8_t *result,
+                 uint8_t *syndrome, uint8_t *difference, uint8_t *zeros, struct tally *tally)
 {
-    uint32_t changes = 0;
     for (size_t r = 0; r < branches->count; r++)
-        changes += visit_branch(q, k, &branches->of[r], threshold, votes, result + r * k, syndrome, difference + r * k);
-    return changes;
+        visit_branch(q, k, branches, r, threshold, result + r * k, syndrome, difference + r * k, zeros, tally);
 }
 
-static void write_number(uint8_t *bytes, uint32_t number)
+/* A number of four bytes in one store. */
+static inline void put_number(uint8_t *numbers, size_t i, uint32_t number)
 {
-    for (int i = 0; i < 4; i++)
-        bytes[i] = (uint8_t)(number >> 8 * i);
+    __builtin_memcpy(numbers + 4 * i, &number, 4);
 }
 
 /* ---- Margins ---- */
 
-static void count_zeros(uint8_t *restrict zeros, const uint8_t *restrict symbols, size_t n)
-{
-    for (size_t i = 0; i < n; i++)
-        zeros[i] = (uint8_t)(zeros[i] + (symbols[i] == 0));
-}
-
-/* A margin in one store: x86-64 has a number's low byte first. */
-static inline void put_margin(uint8_t *margins, size_t j, uint32_t margin)
-{
-    __builtin_memcpy(margins + 4 * j, &margin, 4);
-}
-
+/* Many at a time: the time of a shorter loop depends on where the linker puts it. */
 static void fill_margins(uint8_t *margins, size_t n, uint32_t margin)
 {
-    for (size_t j = 0; j < n; j++)
-        put_margin(margins, j, margin);
+    size_t j = 0;
+    for (; j + LANES <= n; j += LANES)
+        for (size_t lane = 0; lane < LANES; lane++)
+            put_number(margins, j + lane, margin);
+    for (; j < n; j++)
+        put_number(margins, j, margin);
 }
 
 /* The margins where no two of the other estimates are equal. */
 static void write_margins_of_zeros(uint8_t *restrict margins, const uint8_t *restrict zeros, size_t k, uint32_t all)
 {
-    for (size_t j = 0; j < k; j++)
-        put_margin(margins, j, zeros[j] - (uint32_t)(zeros[j] != all));
+    for (size_t j = 0; j < k; j++) {
+        uint8_t n = (uint8_t)(zeros[j] + zeros[k + j]);
+        put_number(margins, j, n - (uint32_t)(n != all));
+    }
 }
 
-/* The margins of a branch. The zeros of all its symbols are counted in straight runs; a vote is taken where two
- * estimates or more are not 0. */
-static void write_margins(size_t k, const struct positions *restrict positions, uint8_t *restrict votes,
-                          const uint8_t *restrict syndrome, const uint8_t *restrict difference,
-                          uint8_t *restrict margins)
+/* The margins of a branch: all in a straight run, then again those of symbols with two estimates or more that are not
+ * 0. */
+static void write_margins(size_t k, const struct positions *restrict positions, const uint8_t *restrict syndrome,
+                          const uint8_t *restrict difference, const uint8_t *restrict zeros, uint8_t *restrict margins)
 {
     size_t n = positions->count;
-    uint8_t zeros[QMTD_MAX_K];
-    for (size_t j = 0; j < k; j++)
-        zeros[j] = difference[j] == 0;
-    for (size_t a = 0; a < n; a++) {
-        size_t p = positions->at[a];
-        count_zeros(zeros, syndrome + p, k - p);
-        count_zeros(zeros + (k - p), syndrome, p);
-    }
+    uint32_t one = (uint32_t)n, two = one - 1; /* the zeros where one estimate is not 0, or two */
     write_margins_of_zeros(margins, zeros, k, (uint32_t)n + 1);
 
     struct offsets offsets;
     start_offsets(positions, &offsets);
-    for (size_t j = 0; j < k; j++)
-        if (zeros[j] < n) {
-            uint8_t estimates[QMTD_MAX_J + 1];
+    for (size_t from = past_blocks(zeros, k, 0, one); from < k; from = past_blocks(zeros, k, from + 8, one))
+        for (uint64_t left = below(zeros, k, from, one); left != 0; left &= left - 1) {
+            size_t j = from + first_of(left);
+            const uint8_t *checks = syndrome + j;
+            uint32_t count = zeros_at(zeros, k, j);
             move_offsets(k, positions, j, &offsets);
-            size_t others = gather(difference[j], syndrome + j, offsets.at, n, estimates);
-            put_margin(margins, j, zeros[j] - count_votes(estimates, others, votes) / 256);
-            clear_votes(estimates, others, votes);
+            put_number(margins, j, count - (count == two ? most_of_two(difference[j], checks, offsets.at, n)
+                                                         : most_other(difference[j], checks, offsets.at, n)));
         }
 }
 
@@ -488,21 +622,23 @@ uint32_t CALL(decode)(uint32_t q, uint32_t k, uint32_t b, const uint8_t *table, 
 
     /* A pass is run where its threshold is below the limit: that of the pass before it, if this was idle, else none. A
      * page at distance 0 needs no visits: no pass changes anything, and every estimate is 0. */
-    uint32_t start = weight(syndrome, k), end = 0, passes = 0, changes = 0, limit = QMTD_MAX_THRESHOLD + 1;
+    uint32_t start = weight(syndrome, k), passes = 0, limit = QMTD_MAX_THRESHOLD + 1;
+    struct tally tally = {0, start};
     if (start > 0) {
-        uint8_t votes[256] = {0};
+        uint8_t zeros[MAX_ZEROS];
+        for (size_t r = 0; r < b; r++)
+            start_zeros(k, &branches.of[r], syndrome, zeros_of(zeros, k, r));
         for (size_t i = 0; i < thresholds_len; i++) {
-            uint32_t threshold = thresholds[i];
+            uint32_t threshold = thresholds[i], before = tally.changes;
             if (threshold >= limit)
                 continue;
-            uint32_t more = pass((uint8_t)q, k, &branches, threshold, votes, result, syndrome, difference);
-            changes += more;
+            pass((uint8_t)q, k, &branches, threshold, result, syndrome, difference, zeros, &tally);
             passes++;
-            limit = more == 0 ? threshold : QMTD_MAX_THRESHOLD + 1;
+            limit = tally.changes == before ? threshold : QMTD_MAX_THRESHOLD + 1;
         }
-        end = weight(syndrome, k) + weight(difference, n);
         for (size_t r = 0; r < b; r++)
-            write_margins(k, &branches.of[r], votes, syndrome, difference + r * k, margins + 4 * r * k);
+            write_margins(k, &branches.of[r], syndrome, difference + r * k, zeros_of(zeros, k, r),
+                          margins + 4 * r * k);
     } else {
         for (size_t i = 0; i < thresholds_len; i++)
             if (thresholds[i] < limit) {
@@ -512,9 +648,9 @@ uint32_t CALL(decode)(uint32_t q, uint32_t k, uint32_t b, const uint8_t *table, 
         fill_margins(margins, n, (uint32_t)branches.of[0].count + 1);
     }
 
-    write_number(counts, passes);
-    write_number(counts + 4, changes);
-    write_number(counts + 8, start);
-    write_number(counts + 12, end);
+    put_number(counts, 0, passes);
+    put_number(counts, 1, tally.changes);
+    put_number(counts, 2, start);
+    put_number(counts, 3, tally.distance);
     return QMTD_OK;
 }
