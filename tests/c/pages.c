@@ -1,6 +1,6 @@
-/* pages.c - runs the reference pages through the archive:  pages FILE [STRIDE]
+/* pages.c - runs the reference pages through the archive:  pages STRIDE FILE..
  *
- * tests/reference/README.md has the format of the file. With a STRIDE only every STRIDE-th page of a group is run.
+ * tests/reference/README.md has the format of the files. Every STRIDE-th page of a group is run, from the first on.
  * Each page runs twice: with guard bytes on both sides of every piece of lent memory, and with none, each piece a heap
  * block of exactly its length (null where that is 0), so that valgrind or a sanitizer sees any access outside.
  * Memory whose content the page does not give holds another pattern each time: no written byte can pass for an unwritten
@@ -276,17 +276,15 @@ static void run_page(struct group *group, struct record *record)
     group->run++;
 }
 
-int main(int argc, char **argv)
+/* Runs the pages of a file, and adds them to all. Could every record of it be read? */
+static int run_file(const char *name, unsigned long stride, struct group *all)
 {
-    FILE *file = argc > 1 ? fopen(argv[1], "rb") : NULL;
-    unsigned long stride = argc > 2 ? strtoul(argv[2], NULL, 10) : 1;
-    if (file == NULL || stride == 0) {
-        fprintf(stderr, "pages FILE [STRIDE]\n");
-        return 2;
+    FILE *file = fopen(name, "rb");
+    if (file == NULL) {
+        printf("%s: cannot be opened\n", name);
+        return 0;
     }
-    setvbuf(stdout, NULL, _IONBF, 0); /* what was found is shown even if the archive crashes the program */
-
-    struct group group = {.pages = 0}, all = {.pages = 0};
+    struct group group = {.pages = 0};
     uint8_t bytes[4];
     size_t read;
     while ((read = fread(bytes, 1, sizeof bytes, file)) > 0) {
@@ -295,17 +293,33 @@ int main(int argc, char **argv)
         if (!take_record(file, take_number(&length), &record)) {
             printf("%s: the record after page %lu is malformed, or of a call that is not known here\n",
                    group.name, group.pages);
-            return 1;
+            return 0;
         }
         if (record.call == &calls[OPEN_GROUP]) {
-            close_group(&group, &all);
+            close_group(&group, all);
             open_group(&group, &record.pieces[0]);
         } else if (group.pages++ % stride == 0) {
             run_page(&group, &record);
         }
     }
-    close_group(&group, &all);
+    close_group(&group, all);
     fclose(file);
+    return 1;
+}
+
+int main(int argc, char **argv)
+{
+    unsigned long stride = argc > 2 ? strtoul(argv[1], NULL, 10) : 0;
+    if (stride == 0) {
+        fprintf(stderr, "pages STRIDE FILE..\n");
+        return 2;
+    }
+    setvbuf(stdout, NULL, _IONBF, 0); /* what was found is shown even if the archive crashes the program */
+
+    struct group all = {.pages = 0};
+    for (int i = 2; i < argc; i++)
+        if (!run_file(argv[i], stride, &all))
+            return 1;
     printf("%lu pages, %lu wrong\n", all.run, all.wrong);
     return all.wrong == 0 && all.run > 0 ? 0 : 1;
 }
