@@ -1,7 +1,7 @@
-"""Makes the reference pages, crates/reference/data/pages.bin, what the program `reference` must print of them, and what
-examples/screen.c must print.
+"""Makes the reference pages, data/pages.bin in the crate of each program that runs some, what the program must print of
+them, and what examples/screen.c must print.
 
-    make_pages.py            write the three files
+    make_pages.py            write the files
     make_pages.py --check    compare them, byte for byte
 
 Every expected byte comes from reference.py, which first tries itself on the worked cases of document 01. README.md
@@ -19,7 +19,6 @@ from records import (CHECK_TABLE, DECODE, DECODE_COUNTERS, DECODE_OUTER, ENCODE,
                      SYNDROME, Pages)
 
 ROOT = Path(__file__).resolve().parent.parent.parent
-CRATE = ROOT / "crates" / "reference"
 
 # Alphabet sizes: small, prime, even, and on both sides of where the sum of two symbols leaves a byte.
 ALPHABETS = [3, 4, 5, 7, 10, 16, 17, 100, 127, 128, 129, 200, 251, 255, 256]
@@ -2245,19 +2244,24 @@ def make():
 
 def main(arguments):
     pages = make()
-    files = {CRATE / "data" / "pages.bin": pages.content(), CRATE / "stdout": pages.report(),
-             ROOT / "examples" / "screen.expected": screen.content()}
+    files = {ROOT / "examples" / "screen.expected": screen.content()}
+    for program, file in pages.files.items():
+        crate = ROOT / "crates" / program
+        files[crate / "data" / "pages.bin"] = file.content()
+        files[crate / "stdout"] = file.report()
+    total = f"{pages.count()} reference pages in {len(pages.files)} files"
     if arguments == ["--check"]:
-        for file, made in files.items():
-            if file.read_bytes() != made:
-                sys.exit(f"{file} is not what this program makes")
-        print(f"{pages.count()} reference pages, as made by this program")
+        for path, made in files.items():
+            if not path.exists() or path.read_bytes() != made:
+                sys.exit(f"{path} is not what this program makes")
+        print(f"{total}, as made by this program")
     elif arguments:
         sys.exit(__doc__)
     else:
-        for file, made in files.items():
-            file.write_bytes(made)
-        print(f"{pages.report().decode()}{pages.count()} pages")
+        for path, made in files.items():
+            path.parent.mkdir(parents=True, exist_ok=True)
+            path.write_bytes(made)
+        print(total)
 
 
 if __name__ == "__main__":

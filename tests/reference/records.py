@@ -1,5 +1,5 @@
-"""The file of reference pages: a record for each call, with all that it takes, returns and writes. README.md beside this
-file has the format."""
+"""The files of reference pages: a record for each call, with all that it takes, returns and writes. README.md beside
+this file has the format."""
 
 import struct
 
@@ -8,6 +8,13 @@ import reference as ref
 # The number of a call in the file; 0 opens a group.
 (OPEN_GROUP, CHECK_TABLE, ENCODE, SYNDROME, DECODE, OPEN, PASS, EXPLAIN, DECODE_COUNTERS, ENCODE_OUTER,
  DECODE_OUTER) = range(11)
+
+# The programs that run the pages, each with a file of its own, and the calls of each.
+PROGRAMS = {
+    "reference": (CHECK_TABLE, ENCODE, SYNDROME, DECODE, OPEN, PASS, EXPLAIN),
+    "reference_counters": (DECODE_COUNTERS,),
+    "reference_outer": (ENCODE_OUTER, DECODE_OUTER),
+}
 
 # What a record gives of a string's content.
 BEFORE, AFTER = 1, 2
@@ -48,42 +55,59 @@ def decode_answers(lengths, number, got):
     return [lent(length, number, content) for length, content in zip((*lengths, 16), written)]
 
 
-class Pages:
-    """Records, each with the expected outcome of one call."""
+def record(call, number, numbers, strings):
+    """A record, with its length before it."""
+    made = struct.pack(f"<{4 + len(numbers)}I", call, number, len(numbers), len(strings), *numbers) + b"".join(strings)
+    assert len(made) <= MOST_RECORD
+    assert all(struct.unpack_from("<I", string)[0] <= MOST_STRING for string in strings)
+    return struct.pack("<I", len(made)) + made
+
+
+class File:
+    """The records of one program, and of each group with pages for it the name, `c_only` and how many there are."""
 
     def __init__(self):
         self.records = []
         self.groups = []
 
-    def open_group(self, name, c_only):
-        """The records that follow are of this group."""
-        self.groups.append([name, c_only, 0])
-        self._record(OPEN_GROUP, 0, [int(c_only)], [read(name.encode())])
+    def add(self, name, c_only, page):
+        """A page of this group, which its first page opens."""
+        if not self.groups or self.groups[-1][0] != name:
+            self.groups.append([name, c_only, 0])
+            self.records.append(record(OPEN_GROUP, 0, [int(c_only)], [read(name.encode())]))
+        self.records.append(page)
+        self.groups[-1][2] += 1
 
     def count(self):
         return sum(count for _, _, count in self.groups)
 
     def content(self):
-        """The file."""
         return b"".join(self.records)
 
     def report(self):
-        """What the program `reference` prints of the file."""
+        """What the program prints of the file."""
         return "".join(f"{name}: {count} pages, {'for the C form only' if c_only else '0 wrong'}\n"
                        for name, c_only, count in self.groups).encode()
 
-    def _record(self, call, number, numbers, strings):
-        record = struct.pack(f"<{4 + len(numbers)}I", call, number, len(numbers), len(strings), *numbers)
-        record += b"".join(strings)
-        assert len(record) <= MOST_RECORD
-        assert all(struct.unpack_from("<I", string)[0] <= MOST_STRING for string in strings)
-        self.records.append(struct.pack("<I", len(record)) + record)
+
+class Pages:
+    """Calls, each with its expected outcome, as a record in the file of the call's program."""
+
+    def __init__(self):
+        self.files = {program: File() for program in PROGRAMS}
+        self.file_of = {call: self.files[program] for program, calls in PROGRAMS.items() for call in calls}
+
+    def open_group(self, name, c_only):
+        """The calls that follow are of this group."""
+        self.name, self.c_only = name, c_only
+
+    def count(self):
+        return sum(file.count() for file in self.files.values())
 
     def _call(self, call, number, expect, numbers, table, strings):
         assert expect in (None, number)
         assert len(table) <= MOST_TABLE
-        self._record(call, number, numbers, [read(table), *strings])
-        self.groups[-1][2] += 1
+        self.file_of[call].add(self.name, self.c_only, record(call, number, numbers, [read(table), *strings]))
 
     # A function for each call. `expect` is the number that it is known to return.
 
