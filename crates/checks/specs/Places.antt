@@ -205,6 +205,16 @@ module _ {c : Code} {o p : Place} (t : TableLimits c) (w : InBranch c o p) where
         omega (arith, l, last-is, run-inside c s r (w .inside), s .runs, s .J-high, mul-le-mul-right (checksEach c) (s .b-high)),
       )
 
+-- the first place of a place's branch, by that place
+abbrev pub branchOf : Place → Place
+branchOf p = record { symbol = p .start; start = p .start; end = p .end; first = p .first; last = p .last }
+
+pub in-own : {c : Code} {o p : Place} → TableLimits c → InBranch c o p → InBranch c (branchOf p) p
+in-own {c} {o} {p} t w = subst (λ (x : Place). InBranch c x p) (sym own) w
+  where
+    own : branchOf p ≡ o
+    own = ap branchOf (w .same) ∙ ap branchOf (w .opens .here) ∙ sym (w .opens .here)
+
 -- what a place is good for: its run, and the checks there
 pub record Found (c : Code) (s : List ℕ) (p : Place) : Type 0 where
   pub start-low : p .start ≤ p .symbol

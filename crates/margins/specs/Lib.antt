@@ -1,2 +1,3 @@
 -- The laws of the functions that write margins.
 pub mod Margins
+pub mod Phases

@@ -17,7 +17,7 @@ use borrow.Author.Tests.{lt-ltb, le-ltb}
 use Rattle.model.specs.Code.{Code, dataCount, checksEach, checksBy, checksOf}
 use Rattle.model.specs.Decoder.{State, stateBy, estimates, dataSymbols, marginsOf, stateWeight}
 use Rattle.model.specs.Limits.{TableLimits}
-use Rattle.model.specs.Symbols.{count, weight, tabulate, symbolsAt}
+use Rattle.model.specs.Symbols.{same, count, weight, tabulate, symbolsAt}
 use Rattle.model.specs.Vote.{otherCount, margin}
 use Rattle.theory.specs.Branches.{checks-length}
 use Rattle.theory.specs.Counting.{same-yes, differ-no, differ-yes, All, length-symbolsAt, misses, count-misses}
@@ -28,7 +28,7 @@ use Rattle.theory.specs.Voting.{other-max}
 use Rattle.checks.specs.Checks.{AtChecks, estimatesBy}
 use Rattle.checks.specs.Places.{AtTable, Found, runAt}
 use Rattle.checks.specs.declared.Place.{Place}
-use Rattle.checks.specs.Estimates.{estimatesAt}
+use Rattle.checks.specs.Estimates.{estimatesAt, zeros-counted}
 use Rattle.zeros.specs.Counts.{zeroCounts, zeroCounts-at}
 
 -- where every estimate is 0
@@ -81,6 +81,15 @@ module _ {c : Code} {s : List ℕ} {p : Place} (f : Found c s p) (run : List ℕ
     f .index-low,
     ap (λ (l : List ℕ). getD l (p .symbol) 0) z ∙ zeroCounts-at c s (p .symbol) h ∙ ap (λ (is : List ℕ). count 0 (symbolsAt s is)) (sym run-checks),
   )
+
+  -- and where the zeros among its estimates are given
+  pub placed-counted : p .symbol < dataCount c → (zs : List ℕ) → zs ≡ zeroCounts c s → (own n : ℕ) → n ≡ getD zs (p .symbol) 0 + same 0 own
+      → AtChecks (c .k) run s
+      × (p .symbol - p .start < c .k)
+      × (n ≡ count 0 (estimatesBy (c .k) run (p .symbol - p .start) own s))
+  placed-counted h zs z own n m =
+      let w = placed-fits h zs z in
+      (w .0, w .1, m ∙ zeros-counted own (symbolsAt s (checksBy (c .k) run (p .symbol - p .start))) (getD zs (p .symbol) 0) (same 0 own) (w .2) refl)
 
   -- the margin
   pub placed-margin : (own : ℕ) (m : ℤ) → m ≡ margin (estimatesBy (c .k) run (p .symbol - p .start) own s) → m ≡ margin (estimatesAt c (p .symbol) own s)

@@ -8,13 +8,14 @@ ghost use lib.IntN.{pos, _-ℤ_};
 ghost use lib.ListN.{length};
 ghost use Rattle.model.specs.Code.{dataCount, checksBy};
 ghost use Rattle.model.specs.Decoder.{stateBy, marginsOf};
-ghost use Rattle.model.specs.Symbols.{count, tabulate, symbolsAt};
+ghost use Rattle.model.specs.Symbols.{same, count, Below, tabulate, symbolsAt};
 ghost use Rattle.model.specs.Vote.{margin};
 ghost use Rattle.params.specs.Codes.{codeBy};
 ghost use Rattle.checks.specs.Checks.{AtChecks, estimatesBy};
 ghost use Rattle.checks.specs.Places.{AtTable};
 ghost use Rattle.zeros.specs.Counts.{zeroCounts};
 ghost use Rattle.margins.specs.Margins.{Left};
+ghost use Rattle.margins.specs.Phases.{zerosAt, byZeros, PastFirm};
 
 // The margin by its two terms, each at most 33: exact at both ends. Reliabilities too are such differences.
 pub fn margin_of(zeros: u8, most: u8) -> i32
@@ -24,15 +25,40 @@ pub fn margin_of(zeros: u8, most: u8) -> i32
     (zeros as i32) - (most as i32)
 }
 
-// The margin of symbol j of a branch, whose run of positions is lent and whose own difference and zeros at its checks are given. Where at most one estimate is not 0, these
-// settle it; else the other values are counted.
+// The zeros among the estimates of a data symbol: those at its checks, and its own difference where that is 0.
+pub fn zeros_with(own: u8, others: u8) -> u8
+    requires { ⌜ others ≤ 32 ⌝ }
+    ensures { λ r. ⌜ r ≡ others + same 0 own ⌝ }
+{
+    others + symbols::equal(0, own)
+}
+
+// The margin of symbol j of a branch, whose run of positions is lent and whose own difference and zeros among its estimates are given: the
+// other values are counted.
+pub fn margin_counted(
+    code: Params,
+    positions: &[u16],
+    j: usize,
+    own: u8,
+    zeros: u8,
+    s: &[u8],
+) -> i32
+    requires { ⌜ AtChecks (code .k) (now positions) (now s)
+        × (j < code .k)
+        × (zeros ≡ count 0 (estimatesBy (code .k) (now positions) j own (now s))) ⌝ }
+    ensures { λ r. ⌜ r ≡ margin (estimatesBy (code .k) (now (positions .entry)) j own (now (s .entry))) ⌝ }
+{
+    margin_of(zeros, visits::most_other_at(code, positions, j, own, s))
+}
+
+// The same by the zeros at its checks. Where at most one estimate is not 0, the zeros settle it.
 pub fn margin_at(code: Params, positions: &[u16], j: usize, own: u8, others: u8, s: &[u8]) -> i32
     requires { ⌜ AtChecks (code .k) (now positions) (now s)
         × (j < code .k)
         × (others ≡ count 0 (symbolsAt (now s) (checksBy (code .k) (now positions) j))) ⌝ }
     ensures { λ r. ⌜ r ≡ margin (estimatesBy (code .k) (now (positions .entry)) j own (now (s .entry))) ⌝ }
 {
-    let zeros = others + symbols::equal(0, own);
+    let zeros = zeros_with(own, others);
     let n = positions.len() + 1;
     if (zeros as usize) == n {
         return margin_of(zeros, 0);
@@ -40,7 +66,65 @@ pub fn margin_at(code: Params, positions: &[u16], j: usize, own: u8, others: u8,
     if (zeros as usize) + 1 == n {
         return margin_of(zeros, 1);
     }
-    margin_of(zeros, visits::most_other_at(code, positions, j, own, s))
+    margin_counted(code, positions, j, own, zeros, s)
+}
+
+// The margin of a data symbol with n zeros among its estimates, which are one more than its checks, where at most one of them is not 0.
+pub fn margin_by_zeros(each: u8, n: u8) -> i32
+    requires { ⌜ each ≤ 32 ⌝ }
+    ensures { λ r. ⌜ r ≡ byZeros each n ⌝ }
+{
+    if each < n {
+        return margin_of(each + 1, 0);
+    }
+    margin_of(each, 1)
+}
+
+// The smaller of two numbers of zeros.
+fn smaller(a: u8, b: u8) -> u8
+    ensures { λ r. ⌜ (r ≤ a) × (r ≤ b) ⌝ }
+{
+    if a < b { a } else { b }
+}
+
+// A number that the zeros among the estimates of no data symbol are below, the least of them, in one straight run.
+fn least_zeros(zeros: &[u8], d: &[u8]) -> u8
+    requires { ⌜ (length (now zeros) ≡ length (now d)) × Below 33 (now zeros) ⌝ }
+    ensures { λ r. ⌜ ((i : ℕ) → i < length (now (d .entry)) → r ≤ zerosAt (now (zeros .entry)) (now (d .entry)) i) ⌝ }
+{
+    let mut least: u8 = 255;
+    let mut i = 0;
+    while i < d.len() {
+        least = smaller(least, zeros_with(d[i], zeros[i]));
+        i += 1;
+    }
+    least
+}
+
+// From a data symbol on, in blocks of 32, past those in which every symbol has so many zeros among its estimates.
+pub fn past_firm(bound: u8, zeros: &[u8], d: &[u8], from: usize, end: usize) -> usize
+    requires { ⌜ (from ≤ end) × (end ≤ length (now d)) × (length (now zeros) ≡ length (now d)) × Below 33 (now zeros) ⌝ }
+    ensures { λ r. ⌜ PastFirm bound (zerosAt (now (zeros .entry)) (now (d .entry))) from end r ⌝ }
+{
+    let mut j = from;
+    while 32 <= end - j {
+        if least_zeros(&zeros[j..j + 32], &d[j..j + 32]) < bound {
+            return j;
+        }
+        j += 32;
+    }
+    j
+}
+
+// Where the block of 32 data symbols that starts here ends, or the end.
+pub fn block_end(from: usize, end: usize) -> usize
+    requires { ⌜ from ≤ end ⌝ }
+    ensures { λ r. ⌜ (from ≤ r) × (r ≤ end) × (from < end → from < r) ⌝ }
+{
+    if end - from < 32 {
+        return end;
+    }
+    from + 32
 }
 
 // The margin of every data symbol, branch by branch, from S and D and the zeros at the checks of each.

@@ -83,6 +83,25 @@ fn open_within(
     end
 }
 
+// Whether a data symbol before the end is there and its visit is not settled.
+fn is_open_before(
+    each: usize,
+    threshold: u8,
+    bound: usize,
+    difference: &[u8],
+    zeros: &[u8],
+    j: usize,
+    end: usize,
+) -> bool
+    requires { ⌜ Settling each threshold bound × (end ≤ length (now difference)) × (end ≤ length (now zeros)) ⌝ }
+    ensures { λ r. ⌜ (r ≡ true → Open each threshold (now (difference .entry)) (now (zeros .entry)) j) ⌝ }
+{
+    if j < end {
+        return is_open_at(each, threshold, bound, difference, zeros, j);
+    }
+    false
+}
+
 // The smaller of two numbers of zeros.
 fn smaller(a: u8, b: u8) -> u8
     ensures { λ r. ⌜ (r ≤ a) × (r ≤ b) ⌝ }
@@ -129,8 +148,8 @@ fn end_near(from: usize, end: usize) -> usize
     from + 32
 }
 
-// The same. The next 32 are looked at one by one; then blocks are passed whole, as far as a number of zeros at the checks settles all
-// their symbols; and so on.
+// The same. On a page with much damage it is mostly the first, which is looked at by itself. Then the next 32 are looked at one by one;
+// then blocks are passed whole, as far as a number of zeros at the checks settles all their symbols; and so on.
 fn first_open(
     each: usize,
     threshold: u8,
@@ -144,6 +163,9 @@ fn first_open(
     ensures found { λ r. ⌜ (r < end → Open each threshold (now (difference .entry)) (now (zeros .entry)) r) ⌝ }
 {
     let bound = settling(each, threshold);
+    if is_open_before(each, threshold, bound, difference, zeros, from, end) {
+        return from;
+    }
     let mut j = from;
     while j < end {
         let near = end_near(j, end);

@@ -50,23 +50,24 @@ fn run_counted(
         let mut place = Place::opening(code.k, each);
         while place.symbol < symbols {
             let mut at = place;
-            while at.symbol < place.end {
+            loop {
                 at = open_symbols::open_from(at, each, threshold, difference, zeros);
-                if at.symbol < place.end {
-                    tally = visits::visit(
-                        code,
-                        positions,
-                        at,
-                        threshold,
-                        result,
-                        syndrome,
-                        difference,
-                        zeros,
-                        counters,
-                        tally,
-                    );
-                    at = at.along();
+                if place.end <= at.symbol {
+                    break;
                 }
+                tally = visits::visit(
+                    code,
+                    positions,
+                    at,
+                    threshold,
+                    result,
+                    syndrome,
+                    difference,
+                    zeros,
+                    counters,
+                    tally,
+                );
+                at = at.along();
             }
             place = at.onward(code.k);
         }

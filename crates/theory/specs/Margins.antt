@@ -109,7 +109,7 @@ map-append : (f : ℕ → ℤ) (xs ys : List ℕ) → map f (xs ++ ys) ≡ map f
 map-append f [] ys = refl
 map-append f (x ∷ xs) ys = ap (λ (l : List ℤ). f x ∷ l) (map-append f xs ys)
 
-map-at : (f : ℕ → ℤ) (xs : List ℕ) (j : ℕ) → j < length xs → getD (map f xs) j (pos 0) ≡ f (getD xs j 0)
+pub map-at : (f : ℕ → ℤ) (xs : List ℕ) (j : ℕ) → j < length xs → getD (map f xs) j (pos 0) ≡ f (getD xs j 0)
 map-at f [] j h = absurd (not-suc-le-zero h)
 map-at f (x ∷ xs) zero h = refl
 map-at f (x ∷ xs) (suc j) h = map-at f xs j (le-of-suc-le-suc h)

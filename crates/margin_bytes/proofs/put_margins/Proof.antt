@@ -31,7 +31,9 @@ cast-write-firm c = omega (arith, c .checks-each .ensures, start (c .before .bef
 write-firm-requires : tie.Need-write-firm-requires
 write-firm-requires c κs =
     let p = start (c .before .before .before) .pre in
-    (omega (arith, p .0 .len-difference, p .0 .checks .table .sizes .data-high), p .1 ∙ ap (λ (m : ℕ). 4 * m) (sym (p .0 .len-difference)))
+    let z = p .0 .checks .table .sizes in
+    let e = p .0 .len-difference in
+    (omega (arith, c .before .checks-each .ensures, z .J-high), omega (arith, e, z .data-high), p .1 ∙ ap (λ (m : ℕ). 4 * m) (sym e))
 
 slice-aggregate-write-margins : tie.Need-slice-aggregate-write-margins
 slice-aggregate-write-margins c = let l = start (c .before .before) .pre .0 in sym (length-take-le _ _ (omega (arith, l .len-difference, l .room)))

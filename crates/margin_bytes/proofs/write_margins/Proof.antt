@@ -1,199 +1,74 @@
--- `write_margins`: in both loops the bytes of the margins of the symbols before the place are written, each by its symbol's estimates, and so all.
+-- `write_margins`: one by one, or first by the zeros, which is right for the firm symbols, and then the others.
 use borrow.Author.Needs.{needs}
-use mathlib.Core.Path.{_∙_, ap}
-use Prim.Native.Nat.{_-_}
+use mathlib.Core.Path.{sym, _∙_, ap}
+use Prim.Native.Nat.{ℕ, _*_}
 use native.Mathlib.Omega.{arith}
 use lib.ListN.{length}
-use Rattle.model.specs.Bytes.{twos, marginBytes}
 use Rattle.model.specs.Code.{Code}
 use Rattle.params.specs.Codes.{codeBy}
-use Rattle.checks.specs.Places.{InBranch, AtBranch, branch-first, branch-next, branch-some, Placed, in-placed, in-along, along-less, in-onward, onward-less, onward-fits, same-run, Found, found}
-use Rattle.checks.specs.declared.Place.{Place}
 use Rattle.zeros.specs.Counts.{length-zeroCounts}
-use Rattle.margins.specs.Margins.{marginOf, margins-are, placed-fits, placed-margin, read-back}
-use Rattle.margin_bytes.specs.Fronts.{Front, front-none, front-turn, front-all}
+use Rattle.margins.specs.Phases.{zeros-below}
+use Rattle.margin_bytes.specs.Phases.{bytes-first}
 use Rattle.margin_bytes.proofs.write_margins.Statement.{statement}
 use Rattle.margin_bytes.proofs.write_margins.Tie as tie
 
-abbrev Inv-loop2 : tie.InvT-loop2
-Inv-loop2 code positions zeros s d out₀ place₀ first last run out place =
-    InBranch (codeBy code positions) place₀ place × Front (marginOf (codeBy code positions) s d) (length d) out (place .symbol)
+-- the start, from where the page is not short, and the code
+abbrev start : tie.Else1 → tie.Start
+start c = c .before .before .before .before .before .before
 
-abbrev μ-loop2 : tie.MeasureT-loop2
-μ-loop2 code positions zeros s d out₀ place₀ first last run out place = place .end - place .symbol
+abbrev codeAt : tie.Start → Code
+codeAt b = codeBy (b .args .code) (b .args .positions .now)
 
-abbrev Inv-loop : tie.InvT-loop
-Inv-loop code positions zeros s d out₀ place₀ out place =
-    AtBranch (codeBy code positions) place × Front (marginOf (codeBy code positions) s d) (length d) out (place .symbol)
+write-each-requires : tie.Need-write-each-requires
+write-each-requires c κs = search needs
 
-abbrev μ-loop : tie.MeasureT-loop
-μ-loop code positions zeros s d out₀ place₀ out place = length d - place .symbol
+checks-each-requires : tie.Need-checks-each-requires
+checks-each-requires c κs = start c .pre .0 .table .sizes .b-low
 
--- the start, seen from the loop over branches; that loop, seen from the one over the symbols of a branch; the code
-abbrev start : tie.At-loop Inv-loop2 μ-loop2 Inv-loop μ-loop → tie.Start Inv-loop2 μ-loop2 Inv-loop μ-loop
-start c = c .before .before .before .before .before .before .before .before
+cast-write-by-zeros : tie.Need-cast-write-by-zeros
+cast-write-by-zeros c = omega (arith, c .checks-each .ensures, start (c .before) .pre .0 .table .sizes .J-high)
 
-abbrev branches : tie.At-loop2 Inv-loop2 μ-loop2 Inv-loop μ-loop → tie.At-loop Inv-loop2 μ-loop2 Inv-loop μ-loop
-branches c = c .before .before .before .before
-
-abbrev codeAt : tie.At-loop Inv-loop2 μ-loop2 Inv-loop μ-loop → Code
-codeAt c = codeBy (start c .args .code) (start c .args .positions .now)
-
--- a branch is next, and what its first place is good for
-next-branch : (c : tie.Then1 Inv-loop2 μ-loop2 Inv-loop μ-loop) → let l = c .before .before in InBranch (codeAt l) (l .loop .place) (l .loop .place)
-next-branch c = let l = c .before .before in branch-next (start l .pre .0 .table) (l .loop .inv .0) (omega (arith, start l .pre .2, c .if1 .taken))
-
-first-place : (c : tie.Then1 Inv-loop2 μ-loop2 Inv-loop μ-loop) → let l = c .before .before in Found (codeAt l) (start l .args .s .now) (l .loop .place)
-first-place c =
-    let l = c .before .before in
-    let t = start l .pre .0 in
-    found t (in-placed (t .table) (next-branch c) (branch-some (t .table) (l .loop .inv .0)))
-
--- a symbol of it is next, and what its place is good for
-placed : (c : tie.Then2 Inv-loop2 μ-loop2 Inv-loop μ-loop) → let i = c .before .before in Placed (codeAt (branches i)) (i .loop2 .place)
-placed c = let i = c .before .before in in-placed (start (branches i) .pre .0 .table) (i .loop2 .inv .0) (c .if2 .taken)
-
-place : (c : tie.Then2 Inv-loop2 μ-loop2 Inv-loop μ-loop) → let i = c .before .before in Found (codeAt (branches i)) (start (branches i) .args .s .now) (i .loop2 .place)
-place c = found (start (branches (c .before .before)) .pre .0) (placed c)
-
--- where the symbol is next, seen from its margin
-abbrev turn : tie.After-margin-at Inv-loop2 μ-loop2 Inv-loop μ-loop → tie.Then2 Inv-loop2 μ-loop2 Inv-loop μ-loop
-turn c = c .before .before .before .before
-
-checks-each-requires : tie.Need-checks-each-requires Inv-loop2 μ-loop2 Inv-loop μ-loop
-checks-each-requires c κs = c .before .before .before .before .before .pre .0 .table .sizes .b-low
-
-opening-requires : tie.Need-opening-requires Inv-loop2 μ-loop2 Inv-loop μ-loop
-opening-requires c κs = tt
-
-loop-holds : tie.Need-loop-holds Inv-loop2 μ-loop2 Inv-loop μ-loop
-loop-holds c =
-    let e = c .opening .ensures in
-    let p = c .before .before .before .before .before .before .before .pre in
-    (branch-first _ _ _ (c .before .checks-each .ensures) e, rw e (front-none _ _ _ (omega (arith, p .2, p .3))))
-
-mul-run : tie.Need-mul-run Inv-loop2 μ-loop2 Inv-loop μ-loop
-mul-run c = let g = first-place c in omega (arith, g .few, g .first-last)
-
-sub-run : tie.Need-sub-run Inv-loop2 μ-loop2 Inv-loop μ-loop
-sub-run c = omega (arith, first-place c .first-last)
-
-part-run-start : tie.Need-part-run-start Inv-loop2 μ-loop2 Inv-loop μ-loop
-part-run-start c = omega (arith, first-place c .first-last)
-
-part-run-end : tie.Need-part-run-end Inv-loop2 μ-loop2 Inv-loop μ-loop
-part-run-end c = first-place c .last-in
-
-loop2-holds : tie.Need-loop2-holds Inv-loop2 μ-loop2 Inv-loop μ-loop
-loop2-holds c = let t = c .before in (next-branch t, t .before .before .loop .inv .1)
-
-sub-index : tie.Need-sub-index Inv-loop2 μ-loop2 Inv-loop μ-loop
-sub-index c = place (c .before) .start-low
-
-shared-slice-read-margin-at : tie.Need-shared-slice-read-margin-at Inv-loop2 μ-loop2 Inv-loop μ-loop
-shared-slice-read-margin-at c =
-    let t = c .before .before in
-    omega (arith, placed t .inside, start (branches (t .before .before)) .pre .2)
-
-shared-slice-read-margin-at-2 : tie.Need-shared-slice-read-margin-at-2 Inv-loop2 μ-loop2 Inv-loop μ-loop
-shared-slice-read-margin-at-2 c =
-    let t = c .before .before .before in
-    let l = branches (t .before .before) in
-    omega (arith, placed t .inside, ap length (start l .pre .1), length-zeroCounts (codeAt l) (start l .args .s .now))
-
-margin-at-requires : tie.Need-margin-at-requires Inv-loop2 μ-loop2 Inv-loop μ-loop
-margin-at-requires c κs =
-    let t = c .before .before .before in
-    let i = t .before .before in
-    placed-fits (place t) _ (same-run (i .loop2 .inv .0) _) (placed t .inside) _ (start (branches i) .pre .1)
-
-mul-put-word : tie.Need-mul-put-word Inv-loop2 μ-loop2 Inv-loop μ-loop
-mul-put-word c =
-    let t = turn (c .before) in
-    omega (arith, placed t .inside, start (branches (t .before .before)) .pre .0 .table .sizes .data-high)
-
-twos-of-requires : tie.Need-twos-of-requires Inv-loop2 μ-loop2 Inv-loop μ-loop
-twos-of-requires c κs = search needs
-
-put-word-requires : tie.Need-put-word-requires Inv-loop2 μ-loop2 Inv-loop μ-loop
-put-word-requires c κs =
-    let t = turn (c .before .before) in
-    let i = t .before .before in
-    omega (arith, placed t .inside, i .loop2 .inv .1 .len, start (branches i) .pre .2)
-
-along-requires : tie.Need-along-requires Inv-loop2 μ-loop2 Inv-loop μ-loop
-along-requires c κs =
-    let t = turn (c .before .before .before .before .before) in
-    omega (arith, placed t .inside, start (branches (t .before .before)) .pre .0 .table .sizes .data-high)
-
-loop2-less : tie.Need-loop2-less Inv-loop2 μ-loop2 Inv-loop μ-loop
-loop2-less c = along-less _ _ (turn (c .before .before .before .before .before .before) .if2 .taken) (c .along .ensures)
-
-loop2-again : tie.Need-loop2-again Inv-loop2 μ-loop2 Inv-loop μ-loop
-loop2-again c =
-    let put = c .before .before .before in
-    let n = put .before .twos-of in
-    let m = put .before .before .before .margin-at in
-    let t = turn (put .before .before .before) in
-    let i = t .before .before in
-    let b = start (branches i) in
-    let w = i .loop2 .inv .0 in
-    let e = c .along .ensures in (
-      in-along (b .pre .0 .table) w (t .if2 .taken) _ e,
-      rw (ap (λ (x : Place). x .symbol) e) (front-turn _ _ _ _ (i .loop2 .inv .1) (omega (arith, placed t .inside, b .pre .2)) _ _
-          (n .ensures ∙ ap twos (read-back _ (m .ok) ∙ placed-margin (place t) _ (same-run w _) _ _ (m .ensures))) (put .put-word .ensures)),
+write-by-zeros-requires : tie.Need-write-by-zeros-requires
+write-by-zeros-requires c κs =
+    let e = c .before in
+    let b = start (e .before) in
+    let p = b .pre in (
+      omega (arith, e .checks-each .ensures, p .0 .table .sizes .J-high),
+      omega (arith, p .2, p .0 .table .sizes .data-high),
+      ap length (p .1) ∙ length-zeroCounts (codeAt b) (b .args .s .now) ∙ sym (p .2),
+      zeros-below (codeAt b) (p .0 .table) (b .args .s .now) _ (p .1),
+      p .3 ∙ ap (λ (n : ℕ). 4 * n) (sym (p .2)),
     )
 
-onward-requires : tie.Need-onward-requires Inv-loop2 μ-loop2 Inv-loop μ-loop
-onward-requires c κs = let i = c .before .before in onward-fits (start (branches i) .pre .0 .table) (i .loop2 .inv .0)
+write-others-requires : tie.Need-write-others-requires
+write-others-requires c κs =
+    let w = c .before .before .before in
+    let e = w .before .before in
+    let p = start (e .before) .pre in
+    (p .0, p .1, p .2, bytes-first (p .0 .table) _ _ _ _ (p .1) (p .2) _ (e .checks-each .ensures) (w .write-by-zeros .ensures))
 
-loop-less : tie.Need-loop-less Inv-loop2 μ-loop2 Inv-loop μ-loop
-loop-less c =
-    let i = c .before .before .before in
-    onward-less (start (branches i) .pre .0 .table) (i .loop2 .inv .0) (omega (arith, c .before .if2 .left)) _ (c .onward .ensures) _ (i .before .before .if1 .taken)
+same-length : tie.Need-same-length
+same-length c = search needs
 
-loop-again : tie.Need-loop-again Inv-loop2 μ-loop2 Inv-loop μ-loop
-loop-again c =
-    let i = c .before .before .before in
-    let e = c .onward .ensures in
-    (in-onward (start (branches i) .pre .0 .table) (i .loop2 .inv .0) (omega (arith, c .before .if2 .left)) _ e, rw (ap (λ (x : Place). x .symbol) e) (i .loop2 .inv .1))
+returns : tie.Need-returns
+returns c r = c .before .before .write-each .ensures r
 
-same-length : tie.Need-same-length Inv-loop2 μ-loop2 Inv-loop μ-loop
-same-length c = let l = c .before .before in omega (arith, l .loop .inv .1 .len, start l .pre .2, start l .pre .3)
+same-length-2 : tie.Need-same-length-2
+same-length-2 c = search needs
 
-returns : tie.Need-returns Inv-loop2 μ-loop2 Inv-loop μ-loop
-returns c r =
-    let l = c .before .before in
-    front-all _ _ _ _ (l .loop .inv .1) (omega (arith, c .if1 .left)) ∙ ap marginBytes (margins-are _ r _ _ _ (start l .pre .2))
+returns-2 : tie.Need-returns-2
+returns-2 c r = c .before .before .write-others .ensures r
 
 pub write-margins-spec : {M : Type 1} → statement M
 write-margins-spec =
     tie.close
     (tie.spec
-    Inv-loop2
-    μ-loop2
-    Inv-loop
-    μ-loop
+    write-each-requires
     checks-each-requires
-    opening-requires
-    loop-holds
-    mul-run
-    sub-run
-    part-run-start
-    part-run-end
-    loop2-holds
-    sub-index
-    shared-slice-read-margin-at
-    shared-slice-read-margin-at-2
-    margin-at-requires
-    mul-put-word
-    twos-of-requires
-    put-word-requires
-    along-requires
-    loop2-less
-    loop2-again
-    onward-requires
-    loop-less
-    loop-again
+    cast-write-by-zeros
+    write-by-zeros-requires
+    write-others-requires
     same-length
-    returns)
+    returns
+    same-length-2
+    returns-2)

@@ -1,17 +1,19 @@
 -- `margin_at`: where all estimates are 0, or all but one, the zeros settle the other count; else it is counted.
 use borrow.Author.Needs.{needs}
-use mathlib.Core.Path.{_≡_, _∙_, ap}
+use mathlib.Core.Path.{_≡_, refl, _∙_, ap}
 use Prim.Native.Nat.{ℕ, _+_, _≤_}
 use native.Mathlib.Omega.{arith}
 use lib.IntN.{pos, _-ℤ_}
 use lib.ListN.{length}
 use mathlib.Core.List.{List}
-use Rattle.model.specs.Symbols.{count}
-use Rattle.model.specs.Vote.{margin}
+use Rattle.model.specs.Code.{checksBy}
+use Rattle.model.specs.Symbols.{count, symbolsAt}
 use Rattle.checks.specs.Checks.{estimatesBy}
+use Rattle.theory.specs.Circulant.{length-checksBy}
+use Rattle.theory.specs.Counting.{length-symbolsAt}
 use Rattle.theory.specs.Margins.{count-le}
 use Rattle.checks.specs.Estimates.{estimates-length, zeros-counted}
-use Rattle.margins.specs.Margins.{margin-firm, margin-but-one, others-few, read-back}
+use Rattle.margins.specs.Margins.{margin-firm, margin-but-one, read-back}
 use Rattle.margins.proofs.margin_at.Statement.{statement}
 use Rattle.margins.proofs.margin_at.Tie as tie
 
@@ -22,21 +24,22 @@ record Counted (es : List ℕ) (zeros J : ℕ) : Type 0 where
   few : length es ≤ 33
 
 -- the estimates, from where their zeros are counted
-abbrev estimates : tie.After-equal → List ℕ
+abbrev estimates : tie.After-zeros-with → List ℕ
 estimates c = let a = c .before .before .before .args in estimatesBy (a .code .k) (a .positions .now) (a .j) (a .own) (a .s .now)
 
-counted : (c : tie.After-equal) → Counted (estimates c) (c .before .before .before .args .others + c .equal .result) (length (c .before .before .before .args .positions .now))
+counted : (c : tie.After-zeros-with) → Counted (estimates c) (c .zeros-with .result) (length (c .before .before .before .args .positions .now))
 counted c =
     let b = c .before .before .before in
     let a = b .args in
     let len = estimates-length (a .code .k) (a .positions .now) (a .j) (a .own) (a .s .now) in
-    record { zero-count = zeros-counted (a .own) _ _ _ (b .pre .2) (c .equal .ensures .0); len = len; few = omega (arith, len, b .pre .0 .J-high) }
+    record { zero-count = c .zeros-with .ensures ∙ zeros-counted (a .own) _ _ _ (b .pre .2) refl; len = len; few = omega (arith, len, b .pre .0 .J-high) }
 
-equal-requires : tie.Need-equal-requires
-equal-requires c κs = search needs
-
-add-zeros : tie.Need-add-zeros
-add-zeros c = let k = counted c in omega (arith, k .zero-count, k .few, count-le 0 (estimates c))
+zeros-with-requires : tie.Need-zeros-with-requires
+zeros-with-requires c κs =
+    let b = c .before .before in
+    let a = b .args in
+    let is = checksBy (a .code .k) (a .positions .now) (a .j) in
+    omega (arith, b .pre .2, b .pre .0 .J-high, count-le 0 (symbolsAt (a .s .now) is), length-symbolsAt (a .s .now) is, length-checksBy (a .code .k) (a .positions .now) (a .j))
 
 add-n : tie.Need-add-n
 add-n c = search needs
@@ -70,29 +73,20 @@ returns-2 c =
     read-back _ (c .margin-of2 .ok) ∙ c .margin-of2 .ensures ∙ ap (λ (n : ℕ). pos n -ℤ pos 1) (k .zero-count)
     ∙ margin-but-one (estimates q) (omega (arith, k .zero-count, k .len, c .before .if2 .taken))
 
-most-other-at-requires : tie.Need-most-other-at-requires
-most-other-at-requires c κs = let p = c .before .before .before .before .before .pre in (p .0, p .1)
-
-margin-of-requires-3 : tie.Need-margin-of-requires-3
-margin-of-requires-3 c κs =
-    let q = c .before .before .before in
-    let k = counted q in
-    (omega (arith, k .zero-count, k .few, count-le 0 (estimates q)), omega (arith, c .most-other-at .ensures, others-few (estimates q), k .few))
+margin-counted-requires : tie.Need-margin-counted-requires
+margin-counted-requires c κs =
+    let q = c .before .before in
+    let p = q .before .before .before .pre in
+    (p .0, p .1, counted q .zero-count)
 
 returns-3 : tie.Need-returns-3
-unfolding margin
-returns-3 c =
-    let o = c .before in
-    let q = o .before .before .before in
-    read-back _ (c .margin-of3 .ok) ∙ c .margin-of3 .ensures ∙ ap (λ (n : ℕ). pos n -ℤ pos (o .most-other-at .result)) (counted q .zero-count)
-    ∙ ap (λ (n : ℕ). pos (count 0 (estimates q)) -ℤ pos n) (o .most-other-at .ensures)
+returns-3 c = read-back _ (c .margin-counted .ok) ∙ c .margin-counted .ensures
 
 pub margin-at-spec : {M : Type 1} → statement M
 margin-at-spec =
     tie.close
     (tie.spec
-    equal-requires
-    add-zeros
+    zeros-with-requires
     add-n
     cast-if1
     margin-of-requires
@@ -101,6 +95,5 @@ margin-at-spec =
     add-if2
     margin-of-requires-2
     returns-2
-    most-other-at-requires
-    margin-of-requires-3
+    margin-counted-requires
     returns-3)

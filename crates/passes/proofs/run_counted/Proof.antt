@@ -141,17 +141,16 @@ kept-in c = kept-by _ _ _ _ _ (outer (branches c) .loop .inv .3 .ready) (made c)
 
 -- the loop over the symbols of a branch, seen from where the next one that is not settled is found
 abbrev looked : tie.After-open-from Inv-loop3 μ-loop3 Inv-loop2 μ-loop2 Inv-loop μ-loop → tie.At-loop3 Inv-loop3 μ-loop3 Inv-loop2 μ-loop2 Inv-loop μ-loop
-looked x = x .before .before .before .before .before .before
+looked x = x .before .before .before
 
 -- the buffers are as long as the branch asks
 open-from-requires : tie.Need-open-from-requires Inv-loop3 μ-loop3 Inv-loop2 μ-loop2 Inv-loop μ-loop
 open-from-requires c κs =
-    let t = c .before .before in
-    let i = t .before .before .before in
+    let i = c .before .before in
     let r = kept-in i .ready in
     let w = i .loop3 .inv .0 in
     let inside = in-end (r .usable .table) w in (
-      omega (arith, t .if3 .taken, same-end w),
+      omega (arith, w .high, same-end w),
       omega (arith, inside, r .sized .len-difference),
       omega (arith, inside, ap length (i .loop3 .inv .2) ∙ length-zeroCounts _ _),
     )
@@ -180,17 +179,17 @@ skipped x =
     (omega (arith, outer b .before .checks-each .ensures, n .passed (b .loop2 .place .symbol + j) (omega (arith, w .low)) (omega (arith, w .low)))))
 
 -- a symbol is next, where one is found
-abbrev found : tie.Then4 Inv-loop3 μ-loop3 Inv-loop2 μ-loop2 Inv-loop μ-loop → tie.After-open-from Inv-loop3 μ-loop3 Inv-loop2 μ-loop2 Inv-loop μ-loop
+abbrev found : tie.Else3 Inv-loop3 μ-loop3 Inv-loop2 μ-loop2 Inv-loop μ-loop → tie.After-open-from Inv-loop3 μ-loop3 Inv-loop2 μ-loop2 Inv-loop μ-loop
 found t = t .before .before .before
 
-inside-end : (t : tie.Then4 Inv-loop3 μ-loop3 Inv-loop2 μ-loop2 Inv-loop μ-loop) → found t .open-from .result .symbol < found t .open-from .result .end
-inside-end t = omega (arith, t .if4 .taken, same-end (reached (found t)))
+inside-end : (t : tie.Else3 Inv-loop3 μ-loop3 Inv-loop2 μ-loop2 Inv-loop μ-loop) → found t .open-from .result .symbol < found t .open-from .result .end
+inside-end t = omega (arith, t .if3 .left, same-end (reached (found t)))
 
-placed : (t : tie.Then4 Inv-loop3 μ-loop3 Inv-loop2 μ-loop2 Inv-loop μ-loop) → Placed (codeAt (outer (branches (looked (found t))))) (found t .open-from .result)
+placed : (t : tie.Else3 Inv-loop3 μ-loop3 Inv-loop2 μ-loop2 Inv-loop μ-loop) → Placed (codeAt (outer (branches (looked (found t))))) (found t .open-from .result)
 placed t = in-placed (kept-in (looked (found t)) .ready .usable .table) (reached (found t)) (inside-end t)
 
 -- the changes stay far below what a tally can hold
-few-changes : (t : tie.Then4 Inv-loop3 μ-loop3 Inv-loop2 μ-loop2 Inv-loop μ-loop) → looked (found t) .loop3 .tally .changes < 4294967295
+few-changes : (t : tie.Else3 Inv-loop3 μ-loop3 Inv-loop2 μ-loop2 Inv-loop μ-loop) → looked (found t) .loop3 .tally .changes < 4294967295
 few-changes t =
     let i = looked (found t) in
     let l = outer (branches i) in
@@ -204,13 +203,13 @@ visit-requires c κs =
     let b = branches i in
     let same = i .loop3 .inv .3 ∙ b .loop2 .inv .3 ∙ outer b .loop .inv .5 in
     let n = found t .open-from .ensures in
-    (kept-in i .ready, placed t, few-changes t, i .loop3 .inv .2, subst Clear (sym same) (start (outer b) .pre .4), omega (arith, n .open-here (omega (arith, t .if4 .taken, same-end (i .loop3 .inv .0))), outer b .before .checks-each .ensures))
+    (kept-in i .ready, placed t, few-changes t, i .loop3 .inv .2, subst Clear (sym same) (start (outer b) .pre .4), omega (arith, n .open-here (omega (arith, t .if3 .left, same-end (i .loop3 .inv .0))), outer b .before .checks-each .ensures))
 
 -- the visit, seen from where the place after it is taken, and the turn that made it
 abbrev visited : tie.After-slice-known10 Inv-loop3 μ-loop3 Inv-loop2 μ-loop2 Inv-loop μ-loop → tie.After-visit Inv-loop3 μ-loop3 Inv-loop2 μ-loop2 Inv-loop μ-loop
 visited c = c .before .before .before .before .before .before .before .before .before .before
 
-abbrev turn : tie.After-visit Inv-loop3 μ-loop3 Inv-loop2 μ-loop2 Inv-loop μ-loop → tie.Then4 Inv-loop3 μ-loop3 Inv-loop2 μ-loop2 Inv-loop μ-loop
+abbrev turn : tie.After-visit Inv-loop3 μ-loop3 Inv-loop2 μ-loop2 Inv-loop μ-loop → tie.Else3 Inv-loop3 μ-loop3 Inv-loop2 μ-loop2 Inv-loop μ-loop
 turn v = v .before .before .before .before .before .before
 
 along-requires : tie.Need-along-requires Inv-loop3 μ-loop3 Inv-loop2 μ-loop2 Inv-loop μ-loop
@@ -221,7 +220,7 @@ along-requires c κs =
 loop3-less : tie.Need-loop3-less Inv-loop3 μ-loop3 Inv-loop2 μ-loop2 Inv-loop μ-loop
 loop3-less c =
     let t = turn (visited (c .before)) in
-    omega (arith, ap (λ (p : Place). p .symbol) (c .along .ensures), found t .open-from .ensures .first .low, t .if4 .taken)
+    omega (arith, ap (λ (p : Place). p .symbol) (c .along .ensures), found t .open-from .ensures .first .low, t .if3 .left)
 
 loop3-again : tie.Need-loop3-again Inv-loop3 μ-loop3 Inv-loop2 μ-loop2 Inv-loop μ-loop
 loop3-again c =
@@ -238,32 +237,31 @@ loop3-again c =
       e .1 .1 ∙ i .loop3 .inv .3,
     )
 
-loop3-less-2 : tie.Need-loop3-less-2 Inv-loop3 μ-loop3 Inv-loop2 μ-loop2 Inv-loop μ-loop
-loop3-less-2 c = let x = c .before .before .before in omega (arith, c .if4 .left, x .before .before .before .if3 .taken)
-
-loop3-again-2 : tie.Need-loop3-again-2 Inv-loop3 μ-loop3 Inv-loop2 μ-loop2 Inv-loop μ-loop
-loop3-again-2 c =
-    let x = c .before .before .before in
-    let i = looked x in
-    (reached x, skipped x, i .loop3 .inv .2, i .loop3 .inv .3)
+-- the visits of the pass, where the branch has no more
+made-all : (x : tie.After-open-from Inv-loop3 μ-loop3 Inv-loop2 μ-loop2 Inv-loop μ-loop)
+    → let l = outer (branches (looked x)) in
+    inner (looked x) ≡ visits (codeAt l) (getD (start l .args .thresholds .now) (l .loop .p) 0) (x .open-from .result .symbol) (between l)
+made-all x = skipped x ∙ ap (visitsFrom _ _ _ _) (branches (looked x) .loop2 .inv .1) ∙ visits-from _ _ _ _ _ _ (omega (arith, reached x .low))
 
 onward-requires : tie.Need-onward-requires Inv-loop3 μ-loop3 Inv-loop2 μ-loop2 Inv-loop μ-loop
-onward-requires c κs = let i = c .before .before .before in onward-fits (kept-in i .ready .usable .table) (i .loop3 .inv .0)
+onward-requires c κs = let x = c .before .before .before in onward-fits (kept-in (looked x) .ready .usable .table) (reached x)
 
 loop2-less : tie.Need-loop2-less Inv-loop3 μ-loop3 Inv-loop2 μ-loop2 Inv-loop μ-loop
 loop2-less c =
-    let x = c .before in
-    let i = x .before .before .before in
-    onward-less (kept-in i .ready .usable .table) (i .loop3 .inv .0) (omega (arith, x .if3 .left, same-end (i .loop3 .inv .0))) _ (c .onward .ensures) _ (i .before .if2 .taken)
+    let t = c .before in
+    let x = t .before .before .before in
+    let i = looked x in
+    onward-less (kept-in i .ready .usable .table) (reached x) (omega (arith, t .if3 .taken, same-end (reached x))) _ (c .onward .ensures) _ (i .before .if2 .taken)
 
 loop2-again : tie.Need-loop2-again Inv-loop3 μ-loop3 Inv-loop2 μ-loop2 Inv-loop μ-loop
 loop2-again c =
-    let x = c .before in
-    let i = x .before .before .before in
+    let t = c .before in
+    let x = t .before .before .before in
+    let i = looked x in
     let l = outer (branches i) in
     let e = c .onward .ensures in (
-      in-onward (kept-in i .ready .usable .table) (i .loop3 .inv .0) (omega (arith, x .if3 .left, same-end (i .loop3 .inv .0))) _ e,
-      made i ∙ ap (λ (y : Place). visits (codeAt l) (getD (start l .args .thresholds .now) (l .loop .p) 0) (y .symbol) (between l)) (sym e),
+      in-onward (kept-in i .ready .usable .table) (reached x) (omega (arith, t .if3 .taken, same-end (reached x))) _ e,
+      made-all x ∙ ap (λ (y : Place). visits (codeAt l) (getD (start l .args .thresholds .now) (l .loop .p) 0) (y .symbol) (between l)) (sym e),
       i .loop3 .inv .2,
       i .loop3 .inv .3 ∙ branches i .loop2 .inv .3,
     )
@@ -300,7 +298,7 @@ loop-again c =
       l .loop2 .inv .2,
       pass-kept x,
       ap (λ (ts : List ℕ). passesFrom (codeAt (outer l)) (o .count + 1) ts (within l)) (e .2)
-          ∙ sym (pass-idle (codeAt (outer l)) (o .count) (o .p) (l .loop2 .place .symbol) ths (between (outer l)) (within l) (omega arith) (all-visited x) (l .loop2 .inv .1) (omega (arith, c .before .before .if5 .taken)))
+          ∙ sym (pass-idle (codeAt (outer l)) (o .count) (o .p) (l .loop2 .place .symbol) ths (between (outer l)) (within l) (omega arith) (all-visited x) (l .loop2 .inv .1) (omega (arith, c .before .before .if4 .taken)))
           ∙ o .inv .4,
       l .loop2 .inv .3 ∙ o .inv .5,
     )
@@ -318,7 +316,7 @@ loop-again-2 c =
       omega arith,
       l .loop2 .inv .2,
       pass-kept x,
-      sym (pass-changed (codeAt (outer l)) (o .count) (o .p) (l .loop2 .place .symbol) (start (outer l) .args .thresholds .now) (between (outer l)) (within l) (omega arith) (all-visited x) (l .loop2 .inv .1) (c .if5 .left))
+      sym (pass-changed (codeAt (outer l)) (o .count) (o .p) (l .loop2 .place .symbol) (start (outer l) .args .thresholds .now) (between (outer l)) (within l) (omega arith) (all-visited x) (l .loop2 .inv .1) (c .if4 .left))
           ∙ o .inv .4,
       l .loop2 .inv .3 ∙ o .inv .5,
     )
@@ -417,8 +415,6 @@ run-counted-spec =
     along-requires
     loop3-less
     loop3-again
-    loop3-less-2
-    loop3-again-2
     onward-requires
     loop2-less
     loop2-again
