@@ -4,16 +4,16 @@ use mathlib.Core.Logic.{_≢_, _↔_}
 use mathlib.Core.Bool.{Bool, true, false, not, _&&_}
 use mathlib.Core.List.{List, [], _∷_, _++_, map}
 use Prim.Native.Nat.{ℕ, suc, _+_, _-_, _*_, _/_, _%_, _^_, _≤_, _<_}
-use native.Mathlib.Nat.{one-mul, mul-le-mul-left}
+use native.Mathlib.Nat.{mul-le-mul-left, mod-eq-of-lt}
 use native.Mathlib.Omega.{arith}
 use lib.Bits.{bitXor}
 use lib.Count.{ones}
 use lib.Dec.{eqb, ltb}
 use lib.IntN.{ℤ, pos, negℤ, _-ℤ_}
-use lib.ListN.{length, getD, length-map}
+use lib.ListN.{length, getD, take, drop, length-map}
 use lib.Signed.{_≤ℤ_}
 use Rattle.model.specs.Bytes.{wordOf, cDecodeOutcome, cDecodeCountersOutcome, cPassOutcome, symbolsOf, symbolBytes}
-use Rattle.model.specs.Calls.{test, firstThatApplies, within, pageTests, thresholdTests, thresholdTest, stateSymbols, explained, countersFit, stateFits, decodeFits, tableAnswer, encodeOuterAnswer, decodeAnswer, decodeOuterAnswer, openAnswer, passAnswer, explainAnswer, outcome, decodeOutcome, decodeCountersOutcome, openOutcome, Passed, passedState, passedChanges, passOutcome, PassCall, fitting, called, afterCalls, callChanges, notRefused, callRun}
+use Rattle.model.specs.Calls.{Test, test, firstThatApplies, within, tableTests, pageTests, thresholdTests, thresholdTest, stateSymbols, explained, countersFit, stateFits, decodeFits, tableAnswer, encodeOuterAnswer, decodeAnswer, decodeOuterAnswer, openAnswer, passAnswer, explainAnswer, outcome, decodeOutcome, decodeCountersOutcome, openOutcome, Passed, passedState, passedChanges, passOutcome, PassCall, fitting, called, afterCalls, callChanges, notRefused, callRun}
 use Rattle.model.specs.Code.{Profile, lowest, highest, Code, codeOf, dataCount, checkCount, pageLength, checksEach, checksBy, checksOf, checkSumBy, checkSymbol, checkSymbols, codeWord, syndrome, dataOf, receivedChecks, SelfOrthogonal, differencesBy, differences, allDifferent}
 use Rattle.model.specs.Decoder.{State, Visit, estimates, isChange, change, changes, visit, after, changeCount, passes, dataSymbols, opened, passesOf, run, distanceTo, Counts, decodedState, decodedCounts, marginsOf, pass, isIdle, none, thresholdsRun, firstSmaller, stateWeight}
 use Rattle.model.specs.Demand.{VisitFalls, Falls, RunFalls, DecodeFalls, PassFalls, Recovers, DecodeRecovers, smallest, EncodesOuter, OuterFalls, OuterRecovers}
@@ -33,8 +33,9 @@ use Rattle.theory.specs.Explaining.{Ground, ground-is, bits-at, bits-one
 use Rattle.theory.specs.Falling.{InRange, visit-no, visit-yes, weight-falls, falls-spent, changes-spent, falls-at}
 use Rattle.theory.specs.Integers.{Least}
 use Rattle.theory.specs.Margins.{margin-low, margin-high, margin-top, margin-bottom, other-zero, margin-stays, margin-at}
+use Rattle.theory.specs.Modulo.{sub-lt, sub-add, sub-two-cases}
 use Rattle.theory.specs.Moments.{result-is, syndrome-is, changes-few, weight-few}
-use Rattle.theory.specs.OneBranch.{firstTests, run-all, checks-all, check-all, differences-all, answer-all}
+use Rattle.theory.specs.OneBranch.{firstTests, data-all, run-all, checks-all, check-all, syndrome-all, differences-all, answer-all, answers-all}
 use Rattle.theory.specs.OuterCheck.{zero-no-step, one-no-step, no-steps, clean-no-step, weakest-least, steps-on, step-adds, steps-few, outer-other, outer-symbols, outer-keeps}
 use Rattle.theory.specs.PassCalls.{calls-made, takenOf, calls-taken, taken-all, all-small}
 use Rattle.theory.specs.Profiles.{inProfile, laterTests, word-in, syndrome-in, opened-in, decoded-in, counts-in, margins-in, passed-in, changes-in, explained-in, table-in, no-one, page-later, decode-later, pass-later, explain-later, wraps}
@@ -46,7 +47,27 @@ use Rattle.theory.specs.Voting.{leader-ahead, lead-max, next-max, next-l
 use Rattle.theory.specs.WideBytes.{symbols-back, bytes-of-symbols, symbols-below, fits-bytes}
 use Rattle.theory.specs.WideCalls.{Wide}
 
--- ---- 1. the table check and the code
+-- ---- 1. symbols, the table check and the code
+
+-- N3: "a − b where b is at most a (no borrow), a + q − b otherwise (one borrow of q). For every q and any two symbols below q it still gives the
+-- difference modulo q", which is a symbol, and the one that added to b gives a.
+pub record TwoCases (q a b : ℕ) : Type 0 where
+  pub no-borrow : b ≤ a → a - b ≡ sub q a b
+  pub borrow : a < b → a + q - b ≡ sub q a b
+  pub symbol : sub q a b < q
+  pub back : add q (sub q a b) b ≡ a
+
+pub two-cases : (q a b : ℕ) → a < q → b < q → TwoCases q a b
+unfolding add
+two-cases q a b ha hb =
+    let some : 0 < q = omega arith in
+    let cases = sub-two-cases q a b ha hb in
+    record {
+      no-borrow = (λ h. sym (cases .0 h));
+      borrow = (λ h. sym (cases .1 h));
+      symbol = sub-lt q some a b;
+      back = sub-add q some a b (omega arith) ∙ mod-eq-of-lt ha;
+    }
 
 -- The table check answers 0 if and only if the limits hold and any two different data symbols share at most one check.
 pub accepted : (c : Code) → (tableAnswer c ≡ 0) ↔ (Limits c × SelfOrthogonal c)
@@ -63,28 +84,40 @@ by-differences c l = orthogonal-differences c l
 pub check-sum : (c : Code) → TableLimits c → (u : List ℕ) (i : ℕ) → i < checkCount c → checkSymbol c u i ≡ checkSum (dataCount c) (checksOf c) u i % c .q
 check-sum c l u i h = check-symbol c l u i h
 
--- A code of one branch is the code of document 01: J is the number of positions in the table, data symbol j has the checks (j + p) mod k,
--- check i is the sum of u((i − p) mod k) over all positions p, a page is k data symbols and k checks, the differences are those of all ordered
--- pairs of different positions, and the table check has tests 1 to 5 alone (N2: "b = 1 gives the old answers").
+-- A code of one branch is the code of document 01 (N2: "b = 1 gives the old answers"): k data symbols and k checks, J the number of positions in the
+-- table, data symbol j in the checks (j + p) mod k, check i the sum of u((i − p) mod k) over all positions p; so the code word and the syndrome, with
+-- the first k symbols of a page its data; the differences those of all ordered pairs of different positions; and the tests of a table are tests 1 to 5
+-- of document 01, in the table check and before the tests that another call has (`later`). The rest follows, since all other definitions of `model`
+-- know the code only through q, these sizes, checks, code words, data, syndromes and tests.
 pub record AsBefore (q k : ℕ) (ps : List ℕ) : Type 0 where
+  pub data-count : dataCount (codeOf q k 1 ps) ≡ k
+  pub check-count : checkCount (codeOf q k 1 ps) ≡ k
+  pub page-length : pageLength (codeOf q k 1 ps) ≡ k + k
   pub each : checksEach (codeOf q k 1 ps) ≡ length ps
   pub checks : (j : ℕ) → j < k → checksOf (codeOf q k 1 ps) j ≡ checksBy k ps j
   pub symbols : (u : List ℕ) (i : ℕ) → checkSymbol (codeOf q k 1 ps) u i ≡ checkSumBy k ps u i % q
-  pub page-length : pageLength (codeOf q k 1 ps) ≡ k + k
   pub word : (u : List ℕ) → codeWord (codeOf q k 1 ps) u ≡ u ++ tabulate k (λ i. checkSumBy k ps u i % q)
+  pub data-of : (page : List ℕ) → dataOf (codeOf q k 1 ps) page ≡ take k page
+  pub syndrome-of : (page : List ℕ) → syndrome (codeOf q k 1 ps) page ≡ tabulate k (λ i. sub q (checkSumBy k ps (take k page) i % q) (getD (drop k page) i 0))
   pub differences-are : differences (codeOf q k 1 ps) ≡ differencesBy k ps ps
   pub answer : tableAnswer (codeOf q k 1 ps) ≡ firstThatApplies (firstTests (codeOf q k 1 ps))
+  pub answers : (later : List Test) → firstThatApplies (tableTests (codeOf q k 1 ps) ++ later) ≡ firstThatApplies (firstTests (codeOf q k 1 ps) ++ later)
 
 pub one-branch : (q k : ℕ) (ps : List ℕ) → 1 ≤ k → AsBefore q k ps
 unfolding codeWord checkSymbols
 one-branch q k ps h = record {
+  data-count = data-all q k ps;
+  check-count = refl;
+  page-length = omega (arith, data-all q k ps);
   each = run-all q k ps;
   checks = checks-all q k ps;
   symbols = check-all q k ps h;
-  page-length = omega (arith, one-mul k);
   word = (λ u. ap (λ (v : List ℕ). u ++ v) (tabulate-ext k _ _ (λ i l. check-all q k ps h u i)));
+  data-of = (λ page. ap (λ (n : ℕ). take n page) (data-all q k ps));
+  syndrome-of = syndrome-all q k ps h;
   differences-are = differences-all q k ps;
   answer = answer-all q k ps;
+  answers = answers-all q k ps;
 }
 
 -- ---- 2. lists of visits from an opened page
