@@ -52,11 +52,16 @@
  *     read may be shared). No recursion; allow 9 KiB of stack. From outside the archive needs at most memset, for
  *     Cortex-M under its ARM names __aeabi_memclr and __aeabi_memclr4.
  *
- * WHAT IS PROVED. What is said here of the calls is proved for every input, of the library's source on its language's
- * abstract machine. Not proved is the compiler, on any processor. The source is lowered once, with the memory layout of
- * x86-64 (a pointer takes 8 bytes, a length 8), and that one module is compiled for each processor. What speaks for an
- * archive beyond the proof is that it is run against the pages of an independent program; README.md says on which
- * processors that is done. This declaration of the calls is not proved to fit the source either: the same runs try it.
+ * WHAT IS PROVED. What is said here of the numbers that the calls return, and of what they leave in the memory lent to
+ * them, is proved for every input, of the library's source on its language's abstract machine. Not proved is the
+ * compiler, on any processor. The source is lowered once, with the memory layout of x86-64 (a pointer takes 8 bytes, a
+ * length 8), and that one module is compiled for each processor. What speaks for an archive beyond the proof is that it
+ * is run against the pages of an independent program; README.md says on which processors that is done. This declaration
+ * of the calls is not proved to fit the source either: the same runs try it.
+ *   Null pointers, alignment, stack and what is needed from outside are properties of an archive, which tests show and
+ * no proof: they call it with null pointers and with memory at every distance from an aligned address, measure its
+ * stack, and read the names in it. These show no data of its own either, and the rule for threads rests on that. What
+ * is said of speed is measured, and qmtd_margin, which is C, is tested.
  */
 #ifndef QMTD_H
 #define QMTD_H
@@ -174,8 +179,8 @@ uint32_t qmtd_syndrome(uint32_t q, uint32_t k, uint32_t b, const uint8_t *table,
  * change, comes the first later one in the list whose threshold is smaller than its own; those between are skipped.
  * Decoding stops where there is no such pass, or at the list's end. A list may so start strict and end loose: 3, 2, 0.
  *   page        read: (b + 1) * k symbols
- *   thresholds  read: 1 to 64 thresholds of one byte each, from 0 to 32, one a pass in this order. The first pass with
- *               the smallest threshold is always run, so where that stands in the list does not matter for the bound.
+ *   thresholds  read: 1 to 64 thresholds of one byte each, from 0 to 32, one a pass in this order. A pass with the
+ *               smallest threshold is always run, so where that stands in the list does not matter for the bound.
  *   result      written whole: b * k symbols, the decoded data
  *   syndrome    written whole: k symbols, the syndrome as the last visit left it
  *   difference  written whole: b * k symbols, result minus received data
@@ -248,7 +253,7 @@ uint32_t qmtd_encode_outer(uint32_t q, uint32_t k, uint32_t b, const uint8_t *ta
  * syndrome and the difference as they stand when the block's turn comes. Of the symbols but the last the one of least
  * reliability is taken, the earliest of equal ones. If its reliability is below that of the block's last symbol, e is
  * subtracted from the result and the difference at that symbol and from the syndrome at each of its checks: an outer
- * step. The block then sums to 0. Otherwise, and where e is 0, the block is left as it is.
+ * step. The block then sums to 0, also in the result handed back. Otherwise, and where e is 0, it is left as it is.
  *   block       the length of a block, 2 or more; it divides b * k. It is the one that the page was encoded with: the
  *               page does not hold it.
  *   counts      as for qmtd_decode; the outer steps are counted as changes and are no pass, and the distance at the end

@@ -268,14 +268,19 @@ pub encode-outer-taken : (c : Code) (L : ℕ) (u : List ℕ) (n : ℕ) → encod
 unfolding encodeAnswer encodeOuterAnswer pageTests tableTests sizeTests
 encode-outer-taken c L u n e = let t = taken-first (encodeTests c u n) (blockTest c L) refl e in (t .0, block-taken c L (t .1))
 
--- encode takes any data symbols of the right number, where it takes some
+-- encode takes any data symbols of the right number, where the table is accepted,
+pub encode-accepts : (c : Code) (w : List ℕ) → tableAnswer c ≡ 0 → SymbolsBelow (c .q) (dataCount c) w → encodeAnswer c w (pageLength c) ≡ 0
+unfolding encodeAnswer
+encode-accepts c w e s =
+    page-passed c (encodeFits c (length w) (pageLength c)) w e
+    ∙ passed-by 6 (encodeFits c (length w) (pageLength c)) _ (rw (eqb-yes (length w) (dataCount c) (s .len), eqb-yes (pageLength c) (pageLength c) refl) refl)
+    ∙ passed-by 7 (allBelow (c .q) w) [] (below-all (c .q) w (s .low)) ∙ nothing-applies
+
+-- and so where it takes some
 pub encode-takes : (c : Code) (u w : List ℕ) (n : ℕ) → encodeAnswer c u n ≡ 0 → SymbolsBelow (c .q) (dataCount c) w → encodeAnswer c w (pageLength c) ≡ 0
 unfolding encodeAnswer pageTests tableAnswer tableTests sizeTests
 encode-takes c u w n e s =
-    let t = taken-first (tableTests c) (test 6 (not (encodeFits c (length u) n)) ∷ test 7 (not (allBelow (c .q) u)) ∷ []) refl e in
-    page-passed c (encodeFits c (length w) (pageLength c)) w (t .0)
-    ∙ passed-by 6 (encodeFits c (length w) (pageLength c)) _ (rw (eqb-yes (length w) (dataCount c) (s .len), eqb-yes (pageLength c) (pageLength c) refl) refl)
-    ∙ passed-by 7 (allBelow (c .q) w) [] (below-all (c .q) w (s .low)) ∙ nothing-applies
+    encode-accepts c w (taken-first (tableTests c) (test 6 (not (encodeFits c (length u) n)) ∷ test 7 (not (allBelow (c .q) u)) ∷ []) refl e .0) s
 
 -- ---- decode
 

@@ -24,7 +24,9 @@ pub mod Explaining
 pub mod Counters
 pub mod Integers
 pub mod OuterCheck
+pub mod BlockSums
 pub mod Margins
+pub mod Words
 pub mod Profiles
 pub mod BitVote
 pub mod WideBytes

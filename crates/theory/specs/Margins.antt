@@ -20,7 +20,7 @@ use Rattle.theory.specs.Distance.{length-tabulate, getD-tabulate}
 use Rattle.theory.specs.Falling.{isChange-facts}
 use Rattle.theory.specs.Integers.{minus-le, minus-eq, whole, minus}
 use Rattle.theory.specs.Turns.{tabulate-snoc}
-use Rattle.theory.specs.Voting.{lead-max, next-max, other-max, other-least, other-some}
+use Rattle.theory.specs.Voting.{lead-max, next-max, other-max, other-least, other-some, leader-mem}
 
 -- ---- counts that are the whole list
 
@@ -77,6 +77,20 @@ margin-bottom es h = (
       let n : count (p .0) es ≡ length es = all-count (p .0) es (p .2) in
       minus-eq (count 0 es) (otherCount es 0 es) 0 (length es) .1 (omega (arith, zeros-others es, other-max es 0 es (p .0) (p .1) (omega arith)))
       ∙ minus (length es)),
+)
+
+-- at most 0: a value other than 0 has at least as many estimates
+pub margin-behind : (es : List ℕ) → 0 < length es → (margin es ≤ℤ pos 0) ↔ ((v : ℕ) × (v ≢ 0) × (count 0 es ≤ count v es))
+unfolding margin
+margin-behind es h = (
+  (λ m.
+      let b : count 0 es + 0 ≤ 0 + otherCount es 0 es = minus-le (count 0 es) (otherCount es 0 es) 0 0 .0 m in
+      elim (ℕ-discrete (count 0 es) 0) as (λ o. (v : ℕ) × (v ≢ 0) × (count 0 es ≤ count v es)) [
+        | yes z ↦ (leader es, (λ e. absurd (omega (arith, leader-mem es h, ap (λ (v : ℕ). count v es) e))), omega arith)
+        | no n ↦ let s = other-some es 0 es (omega arith) in (s .0, s .1, omega (arith, s .2))
+      ]),
+  (λ p. minus-le (count 0 es) (otherCount es 0 es) 0 0 .1 (elim (decLe (count (p .0) es) 0) as (λ o. count 0 es + 0 ≤ 0 + otherCount es 0 es)
+      [ yes z ↦ omega (arith, p .2) | no n ↦ omega (arith, p .2, other-max es 0 es (p .0) (p .1) (omega arith)) ])),
 )
 
 -- ---- the vote and the visit

@@ -16,23 +16,24 @@ use Rattle.model.specs.Bytes.{wordOf, cDecodeOutcome, cDecodeCountersOutcome, c
 use Rattle.model.specs.Calls.{Test, test, firstThatApplies, within, tableTests, pageTests, thresholdTests, thresholdTest, stateSymbols, explained, countersFit, stateFits, decodeFits, tableAnswer, encodeOuterAnswer, decodeAnswer, decodeOuterAnswer, openAnswer, passAnswer, explainAnswer, outcome, decodeOutcome, decodeCountersOutcome, openOutcome, Passed, passedState, passedChanges, passOutcome, PassCall, fitting, called, afterCalls, callChanges, notRefused, callRun}
 use Rattle.model.specs.Code.{Profile, lowest, highest, Code, codeOf, dataCount, checkCount, pageLength, checksEach, checksBy, checksOf, checkSumBy, checkSymbol, checkSymbols, codeWord, syndrome, dataOf, receivedChecks, SelfOrthogonal, differencesBy, differences, allDifferent}
 use Rattle.model.specs.Decoder.{State, Visit, estimates, isChange, change, changes, visit, after, changeCount, passes, dataSymbols, opened, passesOf, run, distanceTo, Counts, decodedState, decodedCounts, marginsOf, pass, isIdle, none, thresholdsRun, firstSmaller, stateWeight}
-use Rattle.model.specs.Demand.{VisitFalls, Falls, RunFalls, DecodeFalls, PassFalls, Recovers, DecodeRecovers, smallest, EncodesOuter, OuterFalls, OuterRecovers}
+use Rattle.model.specs.Demand.{VisitFalls, Falls, RunFalls, DecodeFalls, PassFalls, Encodes, Recovers, DecodeRecovers, smallest, EncodesOuter, OuterFalls, OuterRecovers}
 use Rattle.model.specs.Limits.{TableLimits, Limits}
-use Rattle.model.specs.Outer.{blockSum, blockCount, outerWord, reliabilityOf, leastBelow, weakest, outerSteps, stepCount, outerState, outerCounts}
+use Rattle.model.specs.Outer.{blockSum, blockCount, outerWord, reliabilityOf, leastBelow, weakest, isStep, outerSteps, stepCount, outerState, outerCounts}
 use Rattle.model.specs.Symbols.{choose, add, sub, same, count, tabulate, addEach, subEach, Below}
 use Rattle.model.specs.Vote.{leader, leadCount, nextCount, votes, votesRead, counted, margin, ground, equalBits, gathered, zerosIn, onesDecide, bitVotes}
 use Rattle.theory.specs.Answers.{table-accepted, table-accepts, table-usable, Opens, Taken, decode-taken, decode-opens, open-taken, pass-taken, explain-takes, explain-taken, BlockFits, encode-outer-taken, encode-symbols, encode-takes, encoded-data, decode-outer-taken}
 use Rattle.theory.specs.BitVote.{add-bits, sub-bits, turned-over, word-ones, word-zeros, vote-bits, change-bits, margin-bits, equal-bits, visit-bits}
 use Rattle.theory.specs.Branches.{orthogonal-differences}
-use Rattle.theory.specs.Codes.{code-incidence, check-symbol, check-symbols}
+use Rattle.theory.specs.BlockSums.{sum-before, sum-made, sum-left}
+use Rattle.theory.specs.Codes.{Usable, code-incidence, check-symbol, check-symbols}
 use Rattle.theory.specs.Counting.{eqb-yes, eqb-no, All, length-symbolsAt, count-misses}
 use Rattle.theory.specs.Counters.{length-counted, counted-at, votes-counted}
-use Rattle.theory.specs.Decoding.{OnPage, on-distance, code-on, code-falls, code-received, code-opened-sized, code-sized, code-tied, code-distance, code-recovers, code-minima}
+use Rattle.theory.specs.Decoding.{OnPage, on-distance, code-on, code-falls, code-received, code-opened-sized, code-sized, code-distance, code-idle, code-recovers, code-minima}
 use Rattle.theory.specs.Distance.{length-tabulate, tabulate-ext}
 use Rattle.theory.specs.Explaining.{Ground, ground-is, bits-at, bits-ones, bits-below}
-use Rattle.theory.specs.Falling.{InRange, visit-no, visit-yes, weight-falls, falls-spent, changes-spent, falls-at}
+use Rattle.theory.specs.Falling.{InRange, visit-no, visit-yes, weight-falls, unchanged, falls-spent, changes-spent, falls-at}
 use Rattle.theory.specs.Integers.{Least}
-use Rattle.theory.specs.Margins.{margin-low, margin-high, margin-top, margin-bottom, other-zero, margin-stays, margin-at}
+use Rattle.theory.specs.Margins.{margin-low, margin-high, margin-top, margin-bottom, margin-behind, other-zero, margin-stays, margin-at}
 use Rattle.theory.specs.Modulo.{sub-lt, sub-add, sub-two-cases}
 use Rattle.theory.specs.Moments.{result-is, syndrome-is, changes-few, weight-few}
 use Rattle.theory.specs.OneBranch.{firstTests, data-all, run-all, checks-all, check-all, syndrome-all, differences-all, answer-all, answers-all}
@@ -46,6 +47,7 @@ use Rattle.theory.specs.Tables.{orthogonal-test}
 use Rattle.theory.specs.Voting.{leader-ahead, lead-max, next-max, next-least, leader-mem}
 use Rattle.theory.specs.WideBytes.{symbols-back, bytes-of-symbols, symbols-below, fits-bytes}
 use Rattle.theory.specs.WideCalls.{Wide}
+use Rattle.theory.specs.Words.{word-distance, word-syndrome, word-encoded}
 
 -- ---- 1. symbols, the table check and the code
 
@@ -83,6 +85,13 @@ by-differences c l = orthogonal-differences c l
 -- A check, by positions, is the sum over the data symbols that have it among their checks.
 pub check-sum : (c : Code) → TableLimits c → (u : List ℕ) (i : ℕ) → i < checkCount c → checkSymbol c u i ≡ checkSum (dataCount c) (checksOf c) u i % c .q
 check-sum c l u i h = check-symbol c l u i h
+
+-- Of an accepted table nothing is empty, neither the table nor data, checks and page, so a call that is lent an empty piece of memory is refused.
+pub none-empty : (c : Code) → tableAnswer c ≡ 0 → (0 < length (c .positions)) × (0 < dataCount c) × (0 < checkCount c) × (0 < pageLength c)
+none-empty c e =
+    let n = table-accepted c e .0 .table .sizes in
+    let some : 0 < dataCount c = omega (arith, n .b-low, mul-le-mul-left (c .b) (n .k-low)) in
+    (omega (arith, n .b-low, n .runs, mul-le-mul-left (c .b) (n .J-low)), some, n .k-low, omega arith)
 
 -- A code of one branch is the code of document 01 (N2: "b = 1 gives the old answers"): k data symbols and k checks, J the number of positions in the
 -- table, data symbol j in the checks (j + p) mod k, check i the sum of u((i − p) mod k) over all positions p; so the code word and the syndrome, with
@@ -144,27 +153,44 @@ pub passes-recover : (c : Code) (page : List ℕ) → Received c page → (symbo
     → Recovers c h page (after (c .q) (checksOf c) (passes symbols thresholds) (opened c page) .result)
 passes-recover c page w js a all ts h n = code-recovers c (table-usable c (w .0)) page (w .1) js a all ts h n
 
--- At every moment, which is after any visits, result = received data + D, S = the code word's checks − the received checks, and the distance is
--- the number of nonzero symbols of S and D.
+-- At every moment, which is after any visits, and after the outer steps of any blocks (outer-moment), result = received data + D, S = the code word's
+-- checks − the received checks, and the distance is the number of nonzero symbols of S and D.
 pub record Moment (c : Code) (page : List ℕ) (st : State) : Type 0 where
   pub result-of : st .result ≡ addEach (c .q) (dataOf c page) (st .difference)
   pub syndrome-of : st .syndrome ≡ subEach (c .q) (checkSymbols c (st .result)) (receivedChecks c page)
   pub distance-of : distanceTo c page st ≡ stateWeight st
 
+moment-on : (c : Code) → Usable c → (page : List ℕ) → SymbolsBelow (c .q) (pageLength c) page → (st : State) → OnPage c page st → Moment c page st
+moment-on c l page whole st p =
+    let got = code-received c l page whole in
+    let some = code-incidence c l .pos in
+    record {
+      result-of = result-is some got st (p .sized) (p .tied);
+      syndrome-of = syndrome-is some got st (p .sized) (p .tied)
+          ∙ ap (λ (v : List ℕ). subEach (c .q) v (receivedChecks c page)) (sym (check-symbols c (l .table) (st .result)));
+      distance-of = on-distance c l page whole st p;
+    }
+
 pub every-moment : (c : Code) (page : List ℕ) → Received c page → (visits : List Visit) → InRange (dataCount c) visits
     → Moment c page (after (c .q) (checksOf c) visits (opened c page))
 every-moment c page w vs r =
     let l = table-usable c (w .0) in
-    let got = code-received c l page (w .1) in
-    let st : State = after (c .q) (checksOf c) vs (opened c page) in
-    let z = code-sized c l page (w .1) vs in
-    let t = code-tied c l page (w .1) vs r in
-    let pos = code-incidence c l .pos in
+    moment-on c l page (w .1) (after (c .q) (checksOf c) vs (opened c page)) (code-on c l page (w .1) vs r)
+
+-- A received page is the code word of its data if and only if all symbols of its syndrome are 0; and if and only if it is at distance 0 at the
+-- start; and if and only if it is a page that encode writes, of any data.
+pub record WordMeans (c : Code) (page : List ℕ) : Type 0 where
+  pub syndrome-zero : All (λ s. s ≡ 0) (syndrome c page) ↔ (page ≡ codeWord c (dataOf c page))
+  pub distance-zero : (distanceTo c page (opened c page) ≡ 0) ↔ (page ≡ codeWord c (dataOf c page))
+  pub encoded : (page ≡ codeWord c (dataOf c page)) ↔ ((u : List ℕ) × Encodes c u page)
+
+pub word-means : (c : Code) (page : List ℕ) → Received c page → WordMeans c page
+word-means c page w =
+    let l = table-usable c (w .0) in
     record {
-      result-of = result-is pos got st z t;
-      syndrome-of = syndrome-is pos got st z t
-          ∙ ap (λ (v : List ℕ). subEach (c .q) v (receivedChecks c page)) (sym (check-symbols c (l .table) (st .result)));
-      distance-of = code-distance c l page (w .1) vs r;
+      syndrome-zero = word-syndrome c l page (w .1);
+      distance-zero = word-distance c l page (w .1);
+      encoded = word-encoded c l page (w .1) (w .0);
     }
 
 -- On any state of symbols below q, of an accepted table: every visit of a list lowers the nonzero symbols of S and D together likewise.
@@ -249,12 +275,14 @@ vote-means es h = record {
 -- ---- 5. margins (N1)
 
 -- The margin of a list of estimates lies between their number and its negative. It is their number where every estimate is 0, and its negative
--- where all are one value other than 0, and only there. Its two terms are read off the vote: the zeros, and m1 where the leader is 0, else m0.
+-- where all are one value other than 0, and only there. It is at most 0 where a value other than 0 has at least as many estimates as 0, and only
+-- there. Its two terms are read off the vote: the zeros, and m1 where the leader is 0, else m0.
 pub record MarginMeans (es : List ℕ) : Type 0 where
   pub low : negℤ (pos (length es)) ≤ℤ margin es
   pub high : margin es ≤ℤ pos (length es)
   pub all-zero : (margin es ≡ pos (length es)) ↔ All (λ e. e ≡ 0) es
   pub all-other : (margin es ≡ negℤ (pos (length es))) ↔ ((v : ℕ) × (v ≢ 0) × All (λ e. e ≡ v) es)
+  pub behind : (margin es ≤ℤ pos 0) ↔ ((v : ℕ) × (v ≢ 0) × (count 0 es ≤ count v es))
   pub read-off : margin es ≡ pos (votes es .zeros) -ℤ pos (choose (eqb (votes es .leader) 0) (votes es .next) (votes es .lead))
 
 pub margin-means : (es : List ℕ) → 0 < length es → MarginMeans es
@@ -264,6 +292,7 @@ margin-means es h = record {
   high = margin-high es;
   all-zero = margin-top es;
   all-other = margin-bottom es h;
+  behind = margin-behind es h;
   read-off = ap (λ (n : ℕ). pos (count 0 es) -ℤ pos n) (other-zero es);
 }
 
@@ -306,6 +335,11 @@ pub record SmallestMeans (ts : List ℕ) : Type 0 where
 
 pub smallest-means : (ts : List ℕ) → 0 < length ts → SmallestMeans ts
 smallest-means ts h = record { one = smallest-in ts h; least = smallest-least ts }
+
+-- A pass with the smallest threshold of the list is always run.
+pub smallest-is-run : (c : Code) (page thresholds : List ℕ) → 0 < length thresholds → 0 < count (smallest thresholds) (passesOf c thresholds page)
+unfolding passesOf
+smallest-is-run c page ts h = smallest-run (c .q) (checksOf c) (dataSymbols c) ts (opened c page) h
 
 -- On a page at distance 0 every pass is idle, and those run are the thresholds that are below all before them.
 pub clean-passes : (c : Code) (page : List ℕ) → Received c page → distanceTo c page (opened c page) ≡ 0 → (thresholds : List ℕ)
@@ -396,6 +430,10 @@ pass-falls c others t lent e =
     let p = pass-taken c others t lent e .1 in
     let f = weight-falls-on c (p .table) lent (p .sized) (pass (dataSymbols c) t) (range-pass (dataCount c) (dataSymbols c) t (symbols-range c)) in
     record { falls = f; total = falls-spent (c .q) (checksOf c) stateWeight (pass (dataSymbols c) t) lent f }
+
+-- A pass that changes nothing leaves the three buffers.
+pub idle-leaves : (c : Code) (threshold : ℕ) (st : State) → passedChanges c threshold st ≡ 0 → passedState c threshold st ≡ st
+idle-leaves c t st e = unchanged (c .q) (checksOf c) (pass (dataSymbols c) t) st e
 
 -- "Decode becomes these two and answers as before" (N5): where decode answers 0, open answers 0; decode's result, S, D and changes are those of
 -- the passes of its schedule, called one after the other on what open left, none of them refused; and its passes are their number.
@@ -534,6 +572,33 @@ one-block c thresholds page =
       },
     )
 
+-- "At every moment" (document 01), with the outer check: after any visits and the outer steps of the first n blocks, n up to all of them.
+pub steps-moment : (c : Code) (page : List ℕ) → Received c page → (visits : List Visit) → InRange (dataCount c) visits → (L : ℕ) → BlockFits c L → (n : ℕ)
+    → n ≤ blockCount c L → Moment c page (outerSteps c L n (after (c .q) (checksOf c) visits (opened c page)))
+steps-moment c page w vs r L f n h =
+    let l = table-usable c (w .0) in
+    let st : State = after (c .q) (checksOf c) vs (opened c page) in
+    moment-on c l page (w .1) (outerSteps c L n st) (steps-on c L f l page (w .1) n h st (code-on c l page (w .1) vs r))
+
+-- So after the passes of a decode in blocks of L and the steps of its first n blocks, with any thresholds.
+pub outer-moment : (c : Code) (page : List ℕ) → Received c page → (thresholds : List ℕ) (L : ℕ) → BlockFits c L → (n : ℕ) → n ≤ blockCount c L
+    → Moment c page (outerSteps c L n (decodedState c thresholds page))
+unfolding decodedState run
+outer-moment c page w ts L f n h =
+    steps-moment c page w (run c ts page) (range-passes (dataCount c) (dataSymbols c) (symbols-range c) (passesOf c ts page)) L f n h
+
+-- What block i of the result sums to after the first n blocks of the steps from a state: before its turn what it did in that state; from its turn on 0
+-- where it has a step, and where not what it did before. For the steps of other blocks leave its symbols.
+pub record BlockSums (c : Code) (L : ℕ) (st : State) (i : ℕ) : Type 0 where
+  pub before : (n : ℕ) → n ≤ i → blockSum (c .q) L (outerSteps c L n st .result) i ≡ blockSum (c .q) L (st .result) i
+  pub stepped : isStep c L i (outerSteps c L i st) ≡ true → (n : ℕ) → i < n → blockSum (c .q) L (outerSteps c L n st .result) i ≡ 0
+  pub left : isStep c L i (outerSteps c L i st) ≡ false → (n : ℕ) → i < n → blockSum (c .q) L (outerSteps c L n st .result) i ≡ blockSum (c .q) L (st .result) i
+
+pub block-sums : (c : Code) (L : ℕ) → BlockFits c L → (st : State) → Sized (c .q) (dataCount c) (checkCount c) st → (i : ℕ) → i < blockCount c L → BlockSums c L st i
+block-sums c L f st z i h =
+    let some : 0 < c .q = omega (arith, z .in-result 0) in
+    record { before = sum-before c L f st i; stepped = sum-made c L f some st z i h; left = sum-left c L f st i }
+
 module _ (c : Code) (L : ℕ) (others : Bool) (page thresholds : List ℕ) (lent : State) (e : decodeOuterAnswer c L (others && decodeFits c page lent) page thresholds ≡ 0) where
   answers : (decodeAnswer c (others && decodeFits c page lent) page thresholds ≡ 0) × BlockFits c L
   answers = decode-outer-taken c L (others && decodeFits c page lent) page thresholds e
@@ -577,6 +642,20 @@ module _ (c : Code) (L : ℕ) (others : Bool) (page thresholds : List ℕ) (lent
       no-steps c L (decodedState c thresholds page) (blockCount c L)
       (λ i h. clean-no-step c L (answers .1) (opens-page .usable) page (opens-page .whole) i h (decodedState c thresholds page)
       (sym (on-distance c (opens-page .usable) page (opens-page .whole) (decodedState c thresholds page) passes-on) ∙ z))
+
+  -- So on a code word, whatever its blocks sum to, no pass changes anything and no outer step occurs.
+  pub outer-word : page ≡ codeWord c (dataOf c page) → (outerState c L thresholds page ≡ opened c page) × (outerCounts c L thresholds page .changes ≡ 0)
+  unfolding outerCounts decodedCounts decodedState
+  outer-word w =
+      let l = opens-page .usable in
+      let z : distanceTo c page (opened c page) ≡ 0 = word-distance c l page (opens-page .whole) .1 w in
+      let idle = code-idle c l page (opens-page .whole) z (run c thresholds page) (range c others page thresholds lent (answers .0)) in
+      let clean = outer-clean (ap (distanceTo c page) (idle .0) ∙ z) in
+      (clean .0 ∙ idle .0, omega (arith, idle .1, clean .1))
+
+  -- The sums of the blocks from what the passes left: a block that has a step sums to 0 after it, and in the result that decode hands back.
+  pub outer-sums : (i : ℕ) → i < blockCount c L → BlockSums c L (decodedState c thresholds page) i
+  outer-sums i h = block-sums c L (answers .1) (decodedState c thresholds page) (passes-on .sized) i h
 
   -- The bounds of the counts stand: the changes, the steps included, are at most the distance at the start and one a block.
   pub outer-bounded : Bounded (outerCounts c L thresholds page) × (outerCounts c L thresholds page .changes ≤ outerCounts c L thresholds page .start + blockCount c L)
