@@ -1,5 +1,5 @@
 -- The proved set: the worked pages of document 01 that are marked ●, as one table, and one statement that the definitions give what its rows say.
--- Below it a second table pins misreadings that no marked page tells apart, and four lines hold demand 3 to its numbers.
+-- Below it a second table pins misreadings that no marked page tells apart, and four lines hold demand 3 to its numbers; WorkedDemand has more of these.
 use mathlib.Core.Path.{_≡_, refl, ap, subst, _∙_}
 use mathlib.Core.Bool.{Bool, true, false}
 use mathlib.Core.List.{List, [], _∷_, _++_, map}
@@ -245,6 +245,8 @@ misreadings =
     -- received u(13) is 7: lead 2 − 1 = 1 is above 0
     ∷ decoded twoRuns (0 ∷ 0 ∷ []) (zeros 13 ++ (7 ∷ zeros 25))
     (found (zeros 26) (zeros 13) (zeros 13 ++ (249 ∷ zeros 12)) (map pos (times 13 3 ++ (1 ∷ times 12 3))) 2 1 2 1)
+    -- the header's code of two branches: runs 0, 1, 4 and 0, 2, 7
+    ∷ table (codeOf 256 13 2 (0 ∷ 1 ∷ 4 ∷ 0 ∷ 2 ∷ 7 ∷ [])) 0 true
     -- 10: no branch, 9 branches, 2 times 2,049 symbols, each before 3; 3: 3 positions for 2 branches; 4: within each run
     ∷ table (codeOf 256 13 0 (0 ∷ 1 ∷ [])) 10 true
     ∷ table (codeOf 256 13 9 (0 ∷ [])) 10 true
