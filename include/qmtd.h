@@ -44,24 +44,25 @@
  *     held before does not matter. Only qmtd_pass has buffers that it reads and writes, and the counters of
  *     qmtd_decode_counters must be all 0 before the call and are all 0 after it.
  *   - The pieces of memory lent in one call must not overlap. No call can see that: it is for the caller to keep.
- *   - A pointer may be null where its length is 0. All such calls are refused, since nothing here may be empty.
  *   - A length is a uint64_t on every processor, since a length has 64 bits in the library's own language. A size_t or
  *     sizeof converts by itself.
- *   - No alignment is asked of any pointer.
- *   - No heap, no static data, no locks: calls from several threads are safe on separate buffers (buffers that are only
- *     read may be shared). No recursion; allow 9 KiB of stack. From outside the archive needs at most memset, for
- *     Cortex-M under its ARM names __aeabi_memclr and __aeabi_memclr4.
  *
- * WHAT IS PROVED. What is said here of the numbers that the calls return, and of what they leave in the memory lent to
- * them, is proved for every input, of the library's source on its language's abstract machine. Not proved is the
- * compiler, on any processor. The source is lowered once, with the memory layout of x86-64 (a pointer takes 8 bytes, a
- * length 8), and that one module is compiled for each processor. What speaks for an archive beyond the proof is that it
- * is run against the pages of an independent program; README.md says on which processors that is done. This declaration
- * of the calls is not proved to fit the source either: the same runs try it.
- *   Null pointers, alignment, stack and what is needed from outside are properties of an archive, which tests show and
- * no proof: they call it with null pointers and with memory at every distance from an aligned address, measure its
- * stack, and read the names in it. These show no data of its own either, and the rule for threads rests on that. What
- * is said of speed is measured, and qmtd_margin, which is C, is tested.
+ * THE ARCHIVE. These are properties of the compiled archive. Tests show them, no proof does.
+ *   - Alignment: none is asked of any pointer. The tests lend each piece of memory at all distances from an aligned
+ *     address.
+ *   - Null: a pointer may be null where its length is 0. All such calls are refused, since nothing here may be empty.
+ *   - Threads: calls from several threads are safe on separate buffers; buffers that are only read may be shared. The
+ *     archive has no data of its own and takes nothing from outside but memset (for Cortex-M under its ARM names
+ *     __aeabi_memclr and __aeabi_memclr4), so it has no heap and no lock. The tests look at the archive's names.
+ *   - Stack: allow 9 KiB. The tests measure what each call uses. There is no recursion in the source.
+ *
+ * WHAT IS PROVED. What is said of the calls, but for what stands under THE ARCHIVE, is proved for every input: the
+ * returned number, all that is written and all that is left, and the bound. It is proved of the library's source on its
+ * language's abstract machine. Not proved is the compiler, on any processor. The source is lowered once, with the
+ * memory layout of x86-64 (a pointer takes 8 bytes, a length 8), and that one module is compiled for each processor.
+ * Not proved either is that the declarations below fit the source, nor are the macros and inline functions of this
+ * header. For all of this speak tests: the archive is run against the pages of an independent program; README.md says
+ * on which processors. What is said of speed is measured.
  */
 #ifndef QMTD_H
 #define QMTD_H
@@ -132,6 +133,32 @@ extern "C" {
 #define QMTD_GROUND_ZERO 2    /* left: 0 leads by more than the threshold */
 #define QMTD_GROUND_CHANGE 3  /* a visit now would change the symbol */
 
+/* ---- The bytes of tables and answers. C of this header: none of it is in the archive. ---- */
+
+/* The two bytes of a position, low byte first, for the table of a code: {QMTD_POSITION(0), QMTD_POSITION(260)} is four
+ * bytes. p is a constant from 0 to k - 1. */
+#define QMTD_POSITION(p) ((p) & 0xff), ((p) >> 8)
+
+/* The 32-bit number in four bytes, low byte first. After a decode its passes are qmtd_number(counts), its changes
+ * qmtd_number(counts + 4), its distances qmtd_number(counts + 8) and qmtd_number(counts + 12). */
+static inline uint32_t qmtd_number(const uint8_t *bytes)
+{
+    uint32_t number = bytes[3];
+    number = number << 8 | bytes[2];
+    number = number << 8 | bytes[1];
+    return number << 8 | bytes[0];
+}
+
+/* The margin of data symbol j among the margins that a decode wrote: four bytes each, two's complement. */
+static inline int32_t qmtd_margin(const uint8_t *margins, uint64_t j)
+{
+    const uint8_t *bytes = margins + QMTD_MARGIN_LEN * j;
+    int32_t margin = bytes[3] < 128 ? bytes[3] : bytes[3] - 256;
+    margin = margin * 256 + bytes[2];
+    margin = margin * 256 + bytes[1];
+    return margin * 256 + bytes[0];
+}
+
 /* The compiler warns where a returned number is dropped. */
 #if defined(__GNUC__) || defined(__clang__)
 #define QMTD_MUST_USE __attribute__((warn_unused_result))
@@ -146,7 +173,7 @@ uint32_t qmtd_version(void);
 
 /* Checks a code table.
  *   table       b runs of J positions, one after the other, each run strictly ascending, each position below k; two
- *               bytes a position, low byte first
+ *               bytes a position, low byte first (QMTD_POSITION)
  *   table_len   2 * b * J
  * Writes nothing. Returns QMTD_OK, or 1, 2, 10, 3, 4 or 5. The other calls make the same checks first. */
 QMTD_MUST_USE
@@ -178,6 +205,8 @@ uint32_t qmtd_syndrome(uint32_t q, uint32_t k, uint32_t b, const uint8_t *table,
  * After a pass with a change comes the next in the list, whatever its threshold. After an idle pass, one without a
  * change, comes the first later one in the list whose threshold is smaller than its own; those between are skipped.
  * Decoding stops where there is no such pass, or at the list's end. A list may so start strict and end loose: 3, 2, 0.
+ * A vote compares the estimates pair by pair. A quick test comes before it, whether any value occurs often enough to be
+ * subtracted; where none does, no vote is taken.
  *   page        read: (b + 1) * k symbols
  *   thresholds  read: 1 to 64 thresholds of one byte each, from 0 to 32, one a pass in this order. A pass with the
  *               smallest threshold is always run, so where that stands in the list does not matter for the bound.
@@ -185,7 +214,7 @@ uint32_t qmtd_syndrome(uint32_t q, uint32_t k, uint32_t b, const uint8_t *table,
  *   syndrome    written whole: k symbols, the syndrome as the last visit left it
  *   difference  written whole: b * k symbols, result minus received data
  *   margins     written whole: 4 * b * k bytes, a signed 32-bit number for each data symbol, two's complement, low byte
- *               first; qmtd_margin below reads one. The margin of data symbol j is the number of zeros among its J + 1
+ *               first; qmtd_margin reads one. The margin of data symbol j is the number of zeros among its J + 1
  *               estimates, from the syndrome and the difference handed back, minus the largest count of any one other
  *               value, 0 if there is none: how firmly the symbol stands in the result. It is from -(J + 1) to J + 1.
  *                 J + 1      every estimate is 0: nothing speaks against the symbol
@@ -193,7 +222,7 @@ uint32_t qmtd_syndrome(uint32_t q, uint32_t k, uint32_t b, const uint8_t *table,
  *                 -(J + 1)   every estimate is one same other value
  *               A visit with threshold T would change nothing at j where the margin is -T or more. A margin, like
  *               QMTD_OK, does not say that the symbol is the one sent.
- *   counts      written whole: 16 bytes, four 32-bit numbers, low byte first:
+ *   counts      written whole: 16 bytes, four 32-bit numbers, low byte first (qmtd_number):
  *                 bytes  0 to  3  passes run, idle ones included, skipped ones not; on a page at distance 0 one for
  *                                 each threshold that is smaller than all before it in the list
  *                 bytes  4 to  7  changes
@@ -214,8 +243,9 @@ uint32_t qmtd_decode(uint32_t q, uint32_t k, uint32_t b, const uint8_t *table, u
 
 /* Decodes a received page with counters: for a caller who has 256 bytes to lend. Where these are as they must be, it
  * gives what qmtd_decode gives, the same number, result, syndrome, difference, margins and counts. A vote is read from
- * one counter for each value, so that its work grows with J and not with the square of J: some percent faster on heavily
- * damaged pages, level on others.
+ * one counter for each value, so that its work grows with J and not with the square of J. The quick test of qmtd_decode
+ * comes before this vote too, so little is gained: some percent on heavily damaged pages, nothing on clean ones, and on
+ * lightly damaged ones it may be up to 5 % slower.
  *   counters    read and written: 256 bytes, whatever q is, all 0 before the call and all 0 after it; so they serve for
  *               the next call as they are
  *   the others  as for qmtd_decode
@@ -275,16 +305,6 @@ uint32_t qmtd_decode_outer(uint32_t q, uint32_t k, uint32_t b, const uint8_t *ta
                            uint8_t *margins, uint64_t margins_len,
                            uint8_t *counts, uint64_t counts_len);
 
-/* The margin of data symbol j among the margins that a decode wrote. C of this header, not a call of the archive. */
-static inline int32_t qmtd_margin(const uint8_t *margins, uint64_t j)
-{
-    const uint8_t *bytes = margins + QMTD_MARGIN_LEN * j;
-    int32_t margin = bytes[3] < 128 ? bytes[3] : bytes[3] - 256;
-    margin = margin * 256 + bytes[2];
-    margin = margin * 256 + bytes[1];
-    return margin * 256 + bytes[0];
-}
-
 /* Opens a received page: fills what decoding starts from, for qmtd_pass to work on. The page is not needed after that.
  *   page        read: (b + 1) * k symbols
  *   result      written whole: b * k symbols, the received data
@@ -304,7 +324,7 @@ uint32_t qmtd_open(uint32_t q, uint32_t k, uint32_t b, const uint8_t *table, uin
  *   syndrome    read and written: k symbols
  *   difference  read and written: b * k symbols. The three are as qmtd_open or the last pass left them, or hold any
  *               symbols below q.
- *   changes     written whole: 4 bytes, a 32-bit number, low byte first: the changes of this pass. A pass that changes
+ *   changes     written whole: 4 bytes, a 32-bit number (qmtd_number): the changes of this pass. A pass that changes
  *               nothing leaves the other three buffers as they were.
  * Whatever symbols below q the buffers hold, each change lowers the number of nonzero symbols of syndrome and
  * difference together by more than the threshold, and every other visit leaves the buffers as they were.
@@ -337,7 +357,7 @@ uint32_t qmtd_pass(uint32_t q, uint32_t k, uint32_t b, const uint8_t *table, uin
  *   syndrome    read: k symbols
  *   difference  read: b * k symbols. The three are as qmtd_open, a pass or qmtd_decode left them, or hold any symbols
  *               below q.
- *   answer      written whole: 24 bytes, four 32-bit numbers and one of 64 bits, low byte first:
+ *   answer      written whole: 24 bytes, four 32-bit numbers (qmtd_number) and one of 64 bits, low byte first:
  *                 bytes  0 to  3  the ground, 1 to 3
  *                 bytes  4 to  7  h0, the commonest of the J + 1 estimates; in a tie the smallest of the tied values
  *                 bytes  8 to 11  m0, how many estimates equal h0
