@@ -1,10 +1,10 @@
 /* boundary.c - what the reference pages cannot hold: null pointers, the length of the counts, names in the header, the
- * reading of a margin, every length of a table with every b, unaligned memory, which passes of a list are run on the
- * page of case 7 and on clean ones, passes made one by one on the buffers of an opened page, refused ones between them,
- * symbols of such a page explained, each pass against the grounds of the symbols that it came to first, every place of
- * the counters and many lengths, decodes with counters against the same without, block lengths of every size, encodes
- * and decodes with an outer check against their definition, and the promise that data comes back from a page with few
- * enough symbols replaced. */
+ * bytes of positions, numbers and margins, every length of a table with every b, unaligned memory, which passes of a
+ * list are run on the page of case 7 and on clean ones, passes made one by one on the buffers of an opened page, refused
+ * ones between them, symbols of such a page explained, each pass against the grounds of the symbols that it came to
+ * first, every place of the counters and many lengths, decodes with counters against the same without, block lengths of
+ * every size, encodes and decodes with an outer check against their definition, and the promise that data comes back
+ * from a page with few enough symbols replaced. */
 #include "qmtd.h"
 
 #include <stdio.h>
@@ -105,11 +105,6 @@ static uint32_t decode_outer(const uint8_t *table, size_t table_len, uint32_t bl
     return qmtd_decode_outer(5, K, 1, table, table_len, block, page, page_len, list, list_len, result, sizeof result,
                              syndrome, sizeof syndrome, difference, sizeof difference, margins, sizeof margins,
                              counts, counts_len);
-}
-
-static uint32_t number_at(const uint8_t *bytes)
-{
-    return bytes[0] | (uint32_t)bytes[1] << 8 | (uint32_t)bytes[2] << 16 | (uint32_t)bytes[3] << 24;
 }
 
 static void version(void)
@@ -360,7 +355,7 @@ static void counters_lent(void)
     }
     counters[255] = 0;
     EXPECT(decode_counters(table_a, n, sizeof page, thresholds, 2, counters, 256, 16) == QMTD_OK);
-    EXPECT(counters_zero() && all(result, K, 0) && number_at(counts) == 1);
+    EXPECT(counters_zero() && all(result, K, 0) && qmtd_number(counts) == 1);
     EXPECT(QMTD_COUNTERS_LEN == 256);
 }
 
@@ -411,7 +406,7 @@ static void block_lengths(void)
     }
     EXPECT(answers_untouched() && all(page, sizeof page, 0));
     EXPECT(decode_outer(table_a, n, K, sizeof page, thresholds, 2, 16) == QMTD_OK);
-    EXPECT(all(result, K, 0) && number_at(counts) == 1 && all(counts + 4, 12, 0));
+    EXPECT(all(result, K, 0) && qmtd_number(counts) == 1 && all(counts + 4, 12, 0));
     EXPECT(QMTD_BAD_BLOCK == 12 && QMTD_MIN_BLOCK == 2);
 }
 
@@ -475,6 +470,35 @@ static void names(void)
     EXPECT(decode(table_a, n, sizeof page, list, QMTD_MAX_THRESHOLDS, sizeof counts) == QMTD_OK);
 }
 
+/* The header's two bytes of a position: as written out, and in a table that is taken, positions above 255 among it. */
+static void position_bytes(void)
+{
+    static const uint8_t made[] = {QMTD_POSITION(0), QMTD_POSITION(1), QMTD_POSITION(255), QMTD_POSITION(256),
+                                   QMTD_POSITION(260), QMTD_POSITION(511), QMTD_POSITION(512), QMTD_POSITION(4095)};
+    static const uint8_t due[] = {0, 0, 1, 0, 255, 0, 0, 1, 4, 1, 255, 1, 0, 2, 255, 15};
+    static const uint8_t two[QMTD_TABLE_LEN(2, 3)] = {QMTD_POSITION(0), QMTD_POSITION(260), QMTD_POSITION(511),
+                                                      QMTD_POSITION(8), QMTD_POSITION(300), QMTD_POSITION(413)};
+    static const uint8_t last[] = {QMTD_POSITION(0), QMTD_POSITION(QMTD_MAX_K - 1)};
+    EXPECT(sizeof made == sizeof due && memcmp(made, due, sizeof due) == 0);
+    EXPECT(qmtd_check_table(256, 512, 2, two, sizeof two) == QMTD_OK);
+    EXPECT(qmtd_check_table(256, 511, 2, two, sizeof two) == QMTD_BAD_POSITION);
+    EXPECT(qmtd_check_table(256, QMTD_MAX_K, 1, last, sizeof last) == QMTD_OK);
+    EXPECT(qmtd_check_table(256, QMTD_MAX_K - 1, 1, last, sizeof last) == QMTD_BAD_POSITION);
+}
+
+/* The header's reading of a number, at every distance from an aligned address. */
+static void number_bytes(void)
+{
+    static const uint8_t bytes[] = {0, 0, 0, 0, 0xFF, 0xFF, 0xFF, 0xFF, 0xFF, 0xFF, 0xFF, 0x7F, 0, 0, 0, 0x80,
+                                    1, 2, 3, 4};
+    static const uint32_t numbers[] = {0, 0xFF000000, 0xFFFF0000, 0xFFFFFF00, 0xFFFFFFFF, 0xFFFFFFFF, 0xFFFFFFFF,
+                                       0xFFFFFFFF, 0x7FFFFFFF, 0x007FFFFF, 0x00007FFF, 0x0000007F, 0x80000000,
+                                       0x01800000, 0x02018000, 0x03020180, 0x04030201};
+    EXPECT(sizeof bytes == sizeof numbers / sizeof numbers[0] + 3);
+    for (size_t i = 0; i < sizeof numbers / sizeof numbers[0]; i++)
+        EXPECT(qmtd_number(bytes + i) == numbers[i]);
+}
+
 /* The header's reading of a margin, and its lengths. */
 static void margin_bytes(void)
 {
@@ -533,7 +557,7 @@ static void unaligned(void)
         EXPECT(qmtd_pass(256, K, 1, at[0], sizeof table_a, 0, at[3], K, at[4], K, at[5], K, at[6],
                          QMTD_CHANGES_LEN) == QMTD_OK);
         EXPECT(all(at[3], K, 0) && all(at[4], K, 0) && at[5][0] == 249 && at[5][1] == 253 && all(at[5] + 2, K - 2, 0));
-        EXPECT(number_at(at[6]) == 2);
+        EXPECT(qmtd_number(at[6]) == 2);
 
         EXPECT(qmtd_syndrome(256, K, 1, at[0], sizeof table_a, at[1], 2 * K, at[4], K) == QMTD_OK);
         EXPECT(at[4][0] == 7 && at[4][1] == 10 && at[4][2] == 3 && at[4][5] == 3);
@@ -546,7 +570,7 @@ static void unaligned(void)
         at[1][K + 1] = 0;
         EXPECT(qmtd_decode_outer(256, K, 1, at[0], sizeof table_a, K, at[1], 2 * K, at[2], 2, at[3], K, at[4], K,
                                  at[5], K, at[6], QMTD_MARGINS_LEN(K, 1), at[7], QMTD_COUNTS_LEN) == QMTD_OK);
-        EXPECT(memcmp(at[3], at[1], K) == 0 && all(at[5], K, 0) && at[4][1] == 3 && number_at(at[7] + 4) == 0);
+        EXPECT(memcmp(at[3], at[1], K) == 0 && all(at[5], K, 0) && at[4][1] == 3 && qmtd_number(at[7] + 4) == 0);
         memset(at[3], 0, K);
         EXPECT(qmtd_encode(256, K, 1, at[0], sizeof table_a, at[3], K, at[1], 2 * K) == QMTD_OK);
         EXPECT(all(at[1], 2 * K, 0));
@@ -574,13 +598,13 @@ static void falling_thresholds(void)
                            result, K, syndrome, K, difference, K, margins, sizeof margins,
                            counts, sizeof counts) == QMTD_OK);
         EXPECT(result[0] == (lists[i].changes ? 0 : 7) && all(result + 1, K - 1, 0));
-        EXPECT(number_at(counts) == lists[i].passes && number_at(counts + 4) == lists[i].changes);
-        EXPECT(number_at(counts + 8) == 4 && number_at(counts + 12) == (lists[i].changes ? 1 : 4));
+        EXPECT(qmtd_number(counts) == lists[i].passes && qmtd_number(counts + 4) == lists[i].changes);
+        EXPECT(qmtd_number(counts + 8) == 4 && qmtd_number(counts + 12) == (lists[i].changes ? 1 : 4));
     }
     for (size_t i = 0; i < sizeof clean / sizeof clean[0]; i++) {
         prepare();
         EXPECT(decode(table_a, sizeof table_a, sizeof page, clean[i].list, clean[i].len, sizeof counts) == QMTD_OK);
-        EXPECT(number_at(counts) == clean[i].passes && all(counts + 4, 12, 0));
+        EXPECT(qmtd_number(counts) == clean[i].passes && all(counts + 4, 12, 0));
     }
 }
 
@@ -648,8 +672,8 @@ static void explanations(void)
                 EXPECT(all(answer, sizeof answer, 0xEE));
                 continue;
             }
-            EXPECT(number_at(answer) == asked[i].ground && number_at(answer + 4) == asked[i].h0);
-            EXPECT(number_at(answer + 8) == asked[i].m0 && number_at(answer + 12) == asked[i].m1);
+            EXPECT(qmtd_number(answer) == asked[i].ground && qmtd_number(answer + 4) == asked[i].h0);
+            EXPECT(qmtd_number(answer + 8) == asked[i].m0 && qmtd_number(answer + 12) == asked[i].m1);
             EXPECT(answer[16] == asked[i].bits && all(answer + 17, 7, 0));
         }
         EXPECT(result[0] == (passed ? 0 : 7) && all(result + 1, K - 1, 0) && syndrome[0] == (passed ? 0 : 7));
@@ -728,7 +752,7 @@ static uint32_t ground_of(uint32_t q, uint32_t k, uint32_t b, const uint8_t *tab
     uint8_t bytes[QMTD_ANSWER_LEN];
     EXPECT(qmtd_explain(q, k, b, table, table_len, threshold, symbol, before, n, s, k, d, n, bytes, sizeof bytes) ==
            QMTD_OK);
-    const uint32_t h0 = number_at(bytes + 4), m0 = number_at(bytes + 8);
+    const uint32_t h0 = qmtd_number(bytes + 4), m0 = qmtd_number(bytes + 8);
     for (uint32_t i = 0; i < 64; i++) {
         uint32_t set = bytes[16 + i / 8] >> i % 8 & 1, estimate = d[symbol];
         if (i > j) {
@@ -744,11 +768,11 @@ static uint32_t ground_of(uint32_t q, uint32_t k, uint32_t b, const uint8_t *tab
         EXPECT(value < h0 ? votes[value] < m0 : votes[value] <= m0);
         m1 = value != h0 && votes[value] > m1 ? votes[value] : m1;
     }
-    EXPECT(h0 < q && votes[h0] == m0 && number_at(bytes + 12) == m1);
-    EXPECT(number_at(bytes) == (m0 - m1 <= threshold ? QMTD_GROUND_NO_LEAD
+    EXPECT(h0 < q && votes[h0] == m0 && qmtd_number(bytes + 12) == m1);
+    EXPECT(qmtd_number(bytes) == (m0 - m1 <= threshold ? QMTD_GROUND_NO_LEAD
                                 : h0 == 0            ? QMTD_GROUND_ZERO
                                                      : QMTD_GROUND_CHANGE));
-    return number_at(bytes);
+    return qmtd_number(bytes);
 }
 
 /* Makes a pass and returns its changes. Each lowers the nonzero symbols of syndrome and difference by more than the
@@ -761,7 +785,7 @@ static uint32_t pass(uint32_t q, uint32_t k, uint32_t b, const uint8_t *table, u
     memcpy(before, opened, 2 * n + k);
     EXPECT(qmtd_pass(q, k, b, table, table_len, threshold, opened, n, opened + 2 * n, k, opened + n, n,
                      bytes, sizeof bytes) == QMTD_OK);
-    uint32_t made = number_at(bytes);
+    uint32_t made = qmtd_number(bytes);
     EXPECT(nonzero(opened + n, n + k) + made * (threshold + 1) <= nonzero(before + n, n + k));
     for (uint32_t i = 0; i < n; i++)
         EXPECT((opened[i] + before[n + i]) % q == (before[i] + opened[n + i]) % q);
@@ -876,7 +900,7 @@ static uint32_t outer_as(uint32_t q, uint32_t k, uint32_t b, const uint8_t *tabl
     static uint8_t due[QMTD_MAX_DATA], due_s[QMTD_MAX_K], due_d[QMTD_MAX_DATA];
     const uint32_t n = QMTD_DATA_LEN(k, b), j = table_len / (2 * b), margins_len = QMTD_MARGINS_LEN(k, b);
     const uint32_t refused[] = {0, 1, n + 1, 0xFFFFFFFF - below(100)};
-    uint32_t steps = 0, distance = number_at(decoded.counts + 12);
+    uint32_t steps = 0, distance = qmtd_number(decoded.counts + 12);
     uint8_t c[QMTD_COUNTS_LEN];
 
     memset(back, 0xEE, n);
@@ -899,9 +923,10 @@ static uint32_t outer_as(uint32_t q, uint32_t k, uint32_t b, const uint8_t *tabl
     EXPECT(memcmp(back, due, n) == 0 && memcmp(s, due_s, k) == 0 && memcmp(d, due_d, n) == 0);
     for (uint32_t i = 0; i < n; i++)
         EXPECT(qmtd_margin(m, i) == margin_of(k, table, j, due_s, due_d, i));
-    EXPECT(number_at(c) == number_at(decoded.counts) && number_at(c + 4) == number_at(decoded.counts + 4) + steps);
-    EXPECT(number_at(c + 8) == number_at(decoded.counts + 8));
-    EXPECT(number_at(c + 12) == distance && distance == nonzero(due_s, k) + nonzero(due_d, n));
+    EXPECT(qmtd_number(c) == qmtd_number(decoded.counts));
+    EXPECT(qmtd_number(c + 4) == qmtd_number(decoded.counts + 4) + steps);
+    EXPECT(qmtd_number(c + 8) == qmtd_number(decoded.counts + 8));
+    EXPECT(qmtd_number(c + 12) == distance && distance == nonzero(due_s, k) + nonzero(due_d, n));
     return steps;
 }
 
@@ -925,7 +950,7 @@ static void passes_of(uint32_t q, uint32_t k, uint32_t b, const uint8_t *table, 
             at++;
     }
     refused_pass(q, k, b, table, table_len);
-    EXPECT(passes == number_at(decoded.counts) && sum == number_at(decoded.counts + 4));
+    EXPECT(passes == qmtd_number(decoded.counts) && sum == qmtd_number(decoded.counts + 4));
     EXPECT(memcmp(opened, decoded.result, n) == 0 && memcmp(opened + n, decoded.difference, n) == 0 &&
            memcmp(opened + 2 * n, decoded.syndrome, k) == 0);
 }
@@ -1019,7 +1044,7 @@ static uint32_t recovery_of(uint32_t q, uint32_t k, uint32_t b, const uint8_t *t
         EXPECT(qmtd_decode(q, k, b, table, table_len, received, page_len, list, list_len, back, n, s, k, d, n,
                            m, QMTD_MARGINS_LEN(k, b), c, sizeof c) == QMTD_OK);
         EXPECT(memcmp(back, sent, n) == 0);
-        EXPECT(number_at(c + 12) == replaced);
+        EXPECT(qmtd_number(c + 12) == replaced);
 
         EXPECT(qmtd_encode(q, k, b, table, table_len, back, n, again, page_len) == QMTD_OK);
         for (uint32_t i = 0; i < k; i++)
@@ -1150,6 +1175,8 @@ int main(void)
     block_lengths();
     odd_table();
     names();
+    position_bytes();
+    number_bytes();
     margin_bytes();
     unaligned();
     falling_thresholds();

@@ -1,4 +1,5 @@
-/* header.c - the header alone, twice, compiles without warnings as C99; the names and types of its calls are these. */
+/* header.c - the header alone, twice, compiles without warnings as C99; the names and types of its calls are these, and
+ * its macros are constants that initialise a table. */
 #include "qmtd.h"
 #include "qmtd.h"
 
@@ -18,6 +19,7 @@ typedef uint32_t decode_outer_call(uint32_t, uint32_t, uint32_t, READ, uint32_t,
 typedef uint32_t open_call(uint32_t, uint32_t, uint32_t, READ, READ, LENT, LENT, LENT);
 typedef uint32_t pass_call(uint32_t, uint32_t, uint32_t, READ, uint32_t, LENT, LENT, LENT, LENT);
 typedef uint32_t explain_call(uint32_t, uint32_t, uint32_t, READ, uint32_t, uint32_t, READ, READ, READ, LENT);
+typedef uint32_t number_reader(const uint8_t *);
 typedef int32_t margin_reader(const uint8_t *, uint64_t);
 
 extern const struct calls {
@@ -32,9 +34,14 @@ extern const struct calls {
     open_call *open;
     pass_call *pass;
     explain_call *explain;
+    number_reader *number;
     margin_reader *margin;
 } calls;
 
 const struct calls calls = {qmtd_version, qmtd_check_table, qmtd_encode, qmtd_syndrome, qmtd_decode,
                             qmtd_decode_counters, qmtd_encode_outer, qmtd_decode_outer, qmtd_open, qmtd_pass,
-                            qmtd_explain, qmtd_margin};
+                            qmtd_explain, qmtd_number, qmtd_margin};
+
+extern const uint8_t table[QMTD_TABLE_LEN(2, 2)];
+const uint8_t table[QMTD_TABLE_LEN(2, 2)] = {QMTD_POSITION(0), QMTD_POSITION(260),
+                                             QMTD_POSITION(255 + 1), QMTD_POSITION(QMTD_MAX_K - 1)};

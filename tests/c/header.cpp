@@ -1,13 +1,22 @@
-// header.cpp - the header compiles without warnings as C++11, and its names are C names to the linker.
+// header.cpp - the header compiles without warnings as C++11, its names are C names to the linker, and its macros and
+// inline functions give in C++ what they give in C.
 #include "qmtd.h"
 #include "qmtd.h"
 
 int main()
 {
-    static const uint8_t table[] = {0, 0, 1, 0, 4, 0, 6, 0};
-    static const uint8_t margins[] = {5, 0, 0, 0, 251, 255, 255, 255};
+    static const uint8_t table[] = {QMTD_POSITION(0), QMTD_POSITION(1), QMTD_POSITION(4), QMTD_POSITION(6)};
+    static const uint8_t positions[] = {QMTD_POSITION(255), QMTD_POSITION(256),
+                                        QMTD_POSITION(260), QMTD_POSITION(4095)};
+    static const uint8_t numbers[] = {255, 255, 255, 255, 1, 2, 3, 4};
+    static const uint8_t margins[] = {33, 0, 0, 0, 223, 255, 255, 255, 255, 255, 255, 255, 0, 0, 0, 0};
     const bool right = qmtd_version() == QMTD_VERSION_NUMBER &&
                        qmtd_check_table(QMTD_MAX_Q, 13, 1, table, sizeof table) == QMTD_OK &&
-                       qmtd_margin(margins, 0) == 5 && qmtd_margin(margins, 1) == -5;
+                       sizeof positions == 8 && positions[0] == 255 && positions[1] == 0 &&
+                       positions[2] == 0 && positions[3] == 1 && positions[4] == 4 && positions[5] == 1 &&
+                       positions[6] == 255 && positions[7] == 15 &&
+                       qmtd_number(numbers) == 0xFFFFFFFF && qmtd_number(numbers + 4) == 0x04030201 &&
+                       qmtd_margin(margins, 0) == 33 && qmtd_margin(margins, 1) == -33 &&
+                       qmtd_margin(margins, 2) == -1 && qmtd_margin(margins, 3) == 0;
     return right ? 0 : 1;
 }

@@ -129,7 +129,7 @@ static const uint8_t *take(struct reader *reader, size_t len)
 static uint32_t take_number(struct reader *reader)
 {
     const uint8_t *b = take(reader, 4);
-    return b == NULL ? 0 : b[0] | (uint32_t)b[1] << 8 | (uint32_t)b[2] << 16 | (uint32_t)b[3] << 24;
+    return b == NULL ? 0 : qmtd_number(b);
 }
 
 static void take_piece(struct reader *reader, struct piece *piece)
