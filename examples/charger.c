@@ -10,7 +10,8 @@
 /* The code: one branch of 13 data symbols of any byte value, positions 0, 1, 4, 6. J is 4, and the smallest
  * threshold is 0, so the data comes back whole from any page with at most 2 symbols replaced: 2 * 2 + 0 <= 4. */
 enum { Q = 256, K = 13, B = 1, J = 4 };
-static const uint8_t table[QMTD_TABLE_LEN(B, J)] = {0, 0, 1, 0, 4, 0, 6, 0};
+static const uint8_t table[QMTD_TABLE_LEN(B, J)] = {QMTD_POSITION(0), QMTD_POSITION(1),
+                                                    QMTD_POSITION(4), QMTD_POSITION(6)};
 static const uint8_t thresholds[] = {0, 0, 0};
 
 /* Allowed charging current in ampere at -20, -15, .. 40 degrees. */
@@ -22,8 +23,7 @@ struct decoded {
 
 static unsigned count(const struct decoded *d, int which)
 {
-    const uint8_t *c = d->counts + 4 * which;
-    return c[0] | c[1] << 8 | c[2] << 16 | (unsigned)c[3] << 24;
+    return qmtd_number(d->counts + 4 * which);
 }
 
 static uint32_t decode(const uint8_t *page, size_t page_len, struct decoded *d)

@@ -5,8 +5,8 @@
 
 int main(void)
 {
-    const uint8_t table[] = {0, 0, 1, 0, 4, 0, 6, 0}; /* positions 0, 1, 4, 6; two bytes each, low byte first */
-    const uint8_t thresholds[] = {0, 0};              /* two passes */
+    const uint8_t table[] = {QMTD_POSITION(0), QMTD_POSITION(1), QMTD_POSITION(4), QMTD_POSITION(6)};
+    const uint8_t thresholds[] = {0, 0}; /* two passes */
     const uint8_t data[13] = "Hello, pack!";
     uint8_t page[26], result[13], syndrome[13], difference[13], margins[52], counts[QMTD_COUNTS_LEN];
 

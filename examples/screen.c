@@ -15,7 +15,8 @@
 
 /* One branch of 256 data symbols of any byte value, positions 0, 1, 3, 7. */
 enum { Q = 256, K = 256, B = 1, J = 4, ROWS = 16, COLUMNS = 16, IN_LINE = 32 };
-static const uint8_t table[QMTD_TABLE_LEN(B, J)] = {0, 0, 1, 0, 3, 0, 7, 0};
+static const uint8_t table[QMTD_TABLE_LEN(B, J)] = {QMTD_POSITION(0), QMTD_POSITION(1),
+                                                    QMTD_POSITION(3), QMTD_POSITION(7)};
 static const uint8_t thresholds[] = {1, 0, 0, 0, 0, 0, 0, 0};
 
 static uint8_t sent[K], page[QMTD_PAGE_LEN(K, B)];
@@ -84,11 +85,6 @@ static const char *no_colour(int colours)
     return colours ? "\033[0m" : "";
 }
 
-static unsigned number_at(const uint8_t *bytes)
-{
-    return bytes[0] | bytes[1] << 8 | bytes[2] << 16 | (unsigned)bytes[3] << 24;
-}
-
 static unsigned nonzero(const uint8_t *symbols)
 {
     unsigned count = 0;
@@ -150,7 +146,7 @@ static int show_passes(int colours)
         if (qmtd_pass(Q, K, B, table, sizeof table, thresholds[at], result, K, syndrome, K, difference, K,
                       changes, sizeof changes) != QMTD_OK)
             return 0;
-        made = number_at(changes);
+        made = qmtd_number(changes);
         printf("Pass %u, threshold %d, changes %u", ++passes, thresholds[at], made);
         print_view(made > 0, colours);
     }
@@ -204,11 +200,11 @@ static int explain(const char *when, unsigned symbol)
     if (qmtd_explain(Q, K, B, table, sizeof table, threshold, symbol, result, K, syndrome, K, difference, K,
                      answer, sizeof answer) != QMTD_OK)
         return 0;
-    const unsigned h0 = number_at(answer + 4), m0 = number_at(answer + 8), m1 = number_at(answer + 12);
+    const unsigned h0 = qmtd_number(answer + 4), m0 = qmtd_number(answer + 8), m1 = qmtd_number(answer + 12);
     unsigned left = m0;
     printf("%s it is %u. Of %d votes %u has %u, the next value %u. A visit with threshold %u\n", when, result[symbol],
            J + 1, h0, m0, m1, threshold);
-    switch (number_at(answer)) {
+    switch (qmtd_number(answer)) {
     case QMTD_GROUND_NO_LEAD:
         printf("  leaves it: the lead is not above the threshold.\n");
         break;
@@ -269,7 +265,9 @@ int main(int argc, char **argv)
         return 1;
     print_page(colours);
     print_legend(colours);
-    printf("%u symbols replaced; passes %u, changes %u, distance %u at the start, %u at the end\n", replaced,
-           number_at(counts), number_at(counts + 4), number_at(counts + 8), number_at(counts + 12));
+    const unsigned passes = qmtd_number(counts), changed = qmtd_number(counts + 4);
+    const unsigned start = qmtd_number(counts + 8), end = qmtd_number(counts + 12);
+    printf("%u symbols replaced; passes %u, changes %u, distance %u at the start, %u at the end\n", replaced, passes,
+           changed, start, end);
     return explain_symbol(argc > 2 ? symbol : weakest()) ? 0 : 1;
 }
