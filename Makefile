@@ -6,6 +6,7 @@
 #   make demo                   prove crate by crate, build, and run the charger example
 #   make screen                 the bench screen example: a page after each pass, then coloured by its margins, and why a
 #                               symbol of it is left
+#   make branches, outer        the examples of two branches and of the outer check
 #   make board                  the charger example on an emulated Cortex-M4 board
 #   make test-c                 the C tests over the archive for x86-64
 #   make test-targets           the archives for the other processors: all built, four run under emulation
@@ -13,7 +14,7 @@
 #   make bench                  the library against C, and decode in blocks against decode: times, and instructions a data
 #                               byte; TARGET=x86-64-v3 for AVX2
 #   make votes                  build/votes/libvotes.a, both votes alone, which bench/votes measures
-#   make pages, check-pages     make the reference pages, and what the screen must show, anew; compare them with the
+#   make pages, check-pages     make the reference pages, and what the examples must print, anew; compare them with the
 #                               committed ones
 #   make clean                  remove build/
 
@@ -41,7 +42,7 @@ endif
 
 .NOTPARALLEL:
 .DELETE_ON_ERROR:
-.PHONY: lib demo screen prove board test-c test-targets install bench votes pages check-pages clean
+.PHONY: lib demo screen branches outer prove board test-c test-targets install bench votes pages check-pages clean
 
 lib: $(ARCHIVE)
 
@@ -86,13 +87,13 @@ prove:
 	done
 
 demo: EXAMPLE = charger
-screen: EXAMPLE = screen
-demo screen:
+screen branches outer: EXAMPLE = $@
+demo screen branches outer:
 	@$(MAKE) -s -q build/x86-64/libqmtd.a || $(MAKE) -s prove lib
 	@$(MAKE) -s build/$(EXAMPLE)
 	@build/$(EXAMPLE)
 
-build/charger build/screen: build/%: examples/%.c $(HEADERS) build/x86-64/libqmtd.a
+build/charger build/screen build/branches build/outer: build/%: examples/%.c $(HEADERS) build/x86-64/libqmtd.a
 	$(CC) $(CFLAGS) -Iinclude $< build/x86-64/libqmtd.a -o $@
 
 board:

@@ -1,5 +1,5 @@
 """Makes the reference pages, data/pages.bin in the crate of each program that runs some, what the program must print of
-them, and what examples/screen.c must print.
+them, and what the examples charger.c, branches.c, outer.c and screen.c must print.
 
     make_pages.py            write the files
     make_pages.py --check    compare them, byte for byte
@@ -12,6 +12,7 @@ import itertools
 import sys
 from pathlib import Path
 
+import examples
 import reference as ref
 import screen
 from codes import LINES, SINGER, WIDEST, Random, greedy, greedy_runs, positions_for, runs_for, singer
@@ -2244,7 +2245,10 @@ def make():
 
 def main(arguments):
     pages = make()
-    files = {ROOT / "examples" / "screen.expected": screen.content()}
+    files = {ROOT / "examples" / "charger.expected": examples.charger(),
+             ROOT / "examples" / "branches.expected": examples.branches(),
+             ROOT / "examples" / "outer.expected": examples.outer(),
+             ROOT / "examples" / "screen.expected": screen.content()}
     for program, file in pages.files.items():
         crate = ROOT / "crates" / program
         files[crate / "data" / "pages.bin"] = file.content()

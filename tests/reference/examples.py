@@ -1,0 +1,149 @@
+"""What the examples charger.c, branches.c and outer.c print, by the reference program: the same data, damage and layout,
+but the code words, the decodes and the counts are those of reference.py. `screen.py` does so for screen.c."""
+
+import reference as ref
+from screen import draws
+
+
+def counts_line(counts):
+    return (f"passes {counts.passes}, changes {counts.changes}, distance {counts.start} at the start, "
+            f"{counts.end} at the end")
+
+
+def text(lines):
+    return "".join(line + "\n" for line in lines).encode()
+
+
+def charger():
+    """One branch of 13 data symbols: damage within the bound, damage beyond it, a page that is too short."""
+    q, k = 256, 13
+    code = q, k, 1, ref.table_of([0, 1, 4, 6])
+    allowed = [0, 0, 4, 8, 16, 24, 32, 40, 40, 32, 24, 8, 0]
+    number, page = ref.encode(*code, allowed, 2 * k)
+    assert number == 0
+
+    def decode(received):
+        number, got = ref.decode(*code, received, [0, 0, 0], *ref.decode_lengths(k, 1))
+        assert number == 0
+        return got
+
+    def relay(limits, degrees, ampere):
+        limit = limits[(degrees + 20) // 5]
+        return (f"  {ampere} A at {degrees} degrees: limit {limit} A, relay "
+                f"{'CLOSED' if ampere <= limit else 'open'}")
+
+    lines = ["The pack encodes its limits:"]
+    for name, symbols in (("data", page[:k]), ("checks", page[k:])):
+        lines.append(f"  {name:6}" + "".join(f"{symbol:4}" for symbol in symbols))
+
+    received = list(page)
+    received[3], received[k + 9] = 200, 1
+    got = decode(received)
+    assert got.result == allowed
+    lines += ["", "The lead replaces two symbols, data 3 and check 9. As received:", relay(received, -5, 30), "Decoded:",
+              f"  {counts_line(got.counts)}", relay(got.result, -5, 30),
+              "  Two is within the bound: these are the pack's limits."]
+
+    received = list(page)
+    for check in (0, 1, 4):
+        received[k + check] = (page[k + check] + 5) % q
+    got = decode(received)
+    assert got.result[0] == allowed[0] + 5
+    lines += ["", "The lead adds 5 to three checks of data 0:", f"  {counts_line(got.counts)}", relay(got.result, -20, 5),
+              "  Three is beyond the bound: nearer to the page received, and still not what was sent.",
+              "  The call cannot tell. Keep the damage within the bound, or add a check of your own."]
+
+    number, _ = ref.decode(*code, received[:-1], [0, 0, 0], *ref.decode_lengths(k, 1))
+    lines += ["", "The last symbol is lost:",
+              f"  refused with {number}: a buffer has not the length that the call needs. Nothing was written, relay "
+              "open."]
+    return text(lines)
+
+
+def branches():
+    """Two branches, positions above 255; damage within the bound and beyond it."""
+    q, k, b = 256, 512, 2
+    runs = [[8, 12, 34, 77, 220, 505], [30, 68, 108, 135, 427, 438]]
+    code = q, k, b, ref.table_of(*runs)
+    thresholds = [1, 1] + [0] * 6
+    at_empty = [0, 0, 4, 8, 16, 24, 32, 40, 40, 40, 36, 32, 24, 16, 8, 0]
+    sent = ([at_empty[i // 32] * (32 - i % 32) // 32 for i in range(k)] +
+            [120 + 2 * (i // 32) + 3 * (i % 32) for i in range(k)])
+    number, page = ref.encode(*code, sent, 3 * k)
+    assert number == 0
+
+    j = len(runs[0])
+    lines = [f"A page of {len(page)} symbols: {b} branches of {k} data symbols, and {k} checks."]
+    for symbol in (300, k + 300):
+        checks = " ".join(map(str, ref.checks_of(k, runs, symbol)))
+        lines.append(f"Data symbol {symbol}, symbol {symbol % k} of branch {symbol // k}, is in the checks {checks}.")
+    lines += [f"J is {j} and the smallest threshold 0, so the data comes back where at most {j // 2} symbols are "
+              "replaced.", ""]
+
+    def wrong(data):
+        return sum(given != due for given, due in zip(data, sent))
+
+    draw = draws()
+    for replaced in (j // 2, 77, 230):
+        hit, received = set(), list(page)
+        while len(hit) < replaced:
+            place = draw(len(page))
+            if place not in hit:
+                hit.add(place)
+                received[place] = (page[place] + 1 + draw(q - 1)) % q
+        number, got = ref.decode(*code, received, thresholds, *ref.decode_lengths(k, b))
+        assert number == 0 and (replaced > j // 2 or got.result == sent)
+        lines += [f"{replaced} symbols replaced, {'within' if replaced <= j // 2 else 'beyond'} the bound:",
+                  f"  {counts_line(got.counts)}",
+                  f"  wrong data symbols: {wrong(received[:b * k])} as received, {wrong(got.result)} as decoded"]
+    return text(lines)
+
+
+def outer():
+    """Blocks of 8 with an outer check; decode beside decode with the outer check."""
+    q, k, length = 256, 16, 8
+    code = q, k, 1, ref.table_of([0, 1, 4, 6])
+    thresholds = [0, 0, 0]
+    allowed = [0, 0, 4, 8, 16, 24, 32, 40, 40, 32, 24, 8, 0, 0]
+    places = [i for i in range(k) if i % length != length - 1]
+    number, page = ref.encode_outer(*code, length, ref.symbols(k, dict(zip(places, allowed))), 2 * k)
+    assert number == 0
+
+    def decoded(name, got):
+        wrong = [f"{got.result[place]} A for {due} A at {5 * i - 20} degrees"
+                 for i, (place, due) in enumerate(zip(places, allowed)) if got.result[place] != due]
+        return [f"  {name}: {counts_line(got.counts)}", "    " + (", ".join(wrong) or "all limits as sent")]
+
+    def both(received):
+        plain = ref.decode(*code, received, thresholds, *ref.decode_lengths(k, 1))
+        stepped = ref.decode_outer(*code, length, received, thresholds, *ref.decode_lengths(k, 1))
+        assert plain[0] == stepped[0] == 0
+        return plain[1], stepped[1]
+
+    lines = ["The pack encodes its limits, in blocks whose last symbol makes them sum to 0 modulo 256:"]
+    for at, name in zip(range(0, 2 * k, length), ("block", "block", "checks", "")):
+        lines.append(f"  {name:8}" + "".join(f"{symbol:4}" for symbol in page[at:at + length]))
+
+    received = list(page)
+    for check in (0, 1, 4):
+        received[k + check] = (received[k + check] + 5) % q
+    plain, stepped = both(received)
+    assert plain.result[0] == allowed[0] + 5 and stepped.result == page[:k]
+    assert [step[:2] for step in stepped.steps] == [(0, 5)]
+    lines += ["", "The lead adds 5 to three checks of symbol 0, which is beyond the bound:",
+              *decoded("decode      ", plain), *decoded("decode_outer", stepped),
+              "  The block sums to 5, and symbol 0 is its least reliable symbol: the outer step subtracts 5 there."]
+
+    for check in (2, 3, 8):
+        received[k + check] = (received[k + check] + 9) % q
+    plain, stepped = both(received)
+    assert plain.result[0] != allowed[0] and plain.result[2] != allowed[2] and stepped.result != page[:k]
+    lines += ["", "The lead also adds 9 to three checks of symbol 2, in the same block:",
+              *decoded("decode      ", plain), *decoded("decode_outer", stepped),
+              "  Two symbols of the block are wrong: no step puts both right, and the call cannot tell."]
+
+    number, _ = ref.decode_outer(*code, 6, received, thresholds, *ref.decode_lengths(k, 1))
+    lines += ["", "The charger has another block length than the pack:",
+              f"  refused with {number}: 6 does not divide {k}. One that does would be taken: the page does not hold "
+              "it."]
+    return text(lines)
