@@ -1,4 +1,4 @@
-"""damage.py [Q]: prints a table of docs/TABLES.md on damage beyond the bound. For codes of its tables, threshold lists and
+"""damage.py [Q]: prints a table of docs/history/damage.md. For codes of docs/TABLES.md, threshold lists and
 shares of a page's symbols replaced at random: of 50 pages, those whose data the decoder put right, by the reference
 program. Q is the alphabet size, 256 unless it is given."""
 

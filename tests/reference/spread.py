@@ -3,7 +3,7 @@ whole of k, each kept where it brings no difference a second time. Each is tried
 
     spread.py               the tables of docs/TABLES.md
     spread.py K B J [SEED]  one more
-    spread.py --greedy      the greedy ones that docs/TABLES.md compares them with
+    spread.py --greedy      the greedy ones that docs/history/damage.md compares them with
 """
 
 import sys
