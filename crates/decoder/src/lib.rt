@@ -80,6 +80,7 @@ pub fn decode_blocks(
 }
 
 // Decodes a received page. The votes are taken by 256 lent counters, which are all zero before and after.
+// A quick test comes before each vote (`leads::lead_above`), as in decode.
 pub fn decode_counters(
     q: u32,
     k: u32,
@@ -128,6 +129,7 @@ pub fn decode_counters(
 }
 
 // Decodes a received page. The votes are taken pair by pair.
+// A quick test comes before each vote (`leads::lead_above`): where no value stands often enough to lead, none is taken.
 pub fn decode(
     q: u32,
     k: u32,
