@@ -57,12 +57,8 @@ pub fn correct_page(
             if steps != 0 {
                 slices::clear(zeros);
                 zeros::count_zeros(code, positions, s, zeros);
-                return Tally {
-                    passes: ran.passes,
-                    changes: ran.changes + steps,
-                    start: ran.start,
-                    end: correction::state_weight(d, s),
-                };
+                let end = correction::state_weight(d, s);
+                return ran.changed_by(steps).ended(end);
             }
         }
     }

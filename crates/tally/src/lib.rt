@@ -1,6 +1,6 @@
 // The tally of a decode: its four counts as a value, whose methods take it and return the next; and what decode hands back.
 ghost use mathlib.Core.Path.{_≡_};
-ghost use Prim.Native.Nat.{_+_, _<_};
+ghost use Prim.Native.Nat.{_+_, _<_, _≤_};
 
 // The four counts of a decode.
 pub struct Tally {
@@ -31,6 +31,19 @@ impl Tally {
         Tally {
             passes: self.passes,
             changes: self.changes + 1,
+            start: self.start,
+            end: self.end,
+        }
+    }
+
+    // So many changes more.
+    pub fn changed_by(self, changes: u32) -> Self
+        requires { ⌜ self .changes + changes ≤ 4294967295 ⌝ }
+        ensures { λ r. ⌜ r ≡ record { passes = self .passes; changes = self .changes + changes; start = self .start; end = self .end } ⌝ }
+    {
+        Tally {
+            passes: self.passes,
+            changes: self.changes + changes,
             start: self.start,
             end: self.end,
         }

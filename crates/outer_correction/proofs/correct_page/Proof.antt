@@ -1,6 +1,7 @@
 -- `correct_page`: what the passes leave, the outer steps from there, and the counts of both.
 use borrow.Author.Needs.{needs}
-use mathlib.Core.Path.{ap, _∙_}
+use mathlib.Core.Path.{refl, ap, _∙_}
+use Prim.Native.Nat.{ℕ}
 use native.Mathlib.Omega.{arith}
 use Rattle.model.specs.Code.{Code}
 use Rattle.model.specs.Decoder.{State, stateBy, stateWeight}
@@ -8,7 +9,8 @@ use Rattle.params.specs.Codes.{in-bytes, codeBy}
 use Rattle.theory.specs.Answers.{Opens, BlockFits}
 use Rattle.theory.specs.Counters.{clear-written}
 use Rattle.outer_steps.specs.Blocks.{Stepped}
-use Rattle.visits.specs.Progress.{Progress, progress, Ready, at-table}
+use Rattle.tally.specs.declared.Tally.{Tally}
+use Rattle.visits.specs.Progress.{Progress, progress, both, Ready, at-table}
 use Rattle.zeros.specs.Counts.{zeroCounts}
 use Rattle.outer_correction.specs.Corrected.{passed-ready, one-corrected, clean-corrected, stepped-ready, stepped-few, left-corrected, steps-corrected}
 use Rattle.outer_correction.proofs.correct_page.Statement.{statement}
@@ -32,6 +34,10 @@ steps c = c .before .before .before .before .before .before
 
 abbrev codeAt : tie.Start → Code
 codeAt b = codeBy (b .args .code) (b .args .positions .now)
+
+-- a tally with its distance at the end
+abbrev ended : ℕ → Tally → Tally
+ended w t = record { passes = t .passes; changes = t .changes; start = t .start; end = w }
 
 opens : (b : tie.Start) → Opens (codeAt b) (b .args .page .now) (stateBy (b .args .result .now) (b .args .s .now) (b .args .d .now))
 opens b = b .pre .0 .opens
@@ -80,43 +86,61 @@ count-zeros-requires c κs =
       clear-written _ _ (z .before .clear .ensures),
     )
 
-add-t39 : tie.Need-add-t39
-add-t39 c =
-    let x = recounted (c .before .before .before .before) in
-    let d = before-steps x in
-    let b = start d in
-    record { fits = omega (arith, stepped-few (codeAt b) (b .args .block) _ _ _ (opens b) (passed d) (d .decode-page .ensures .0) (fits x) (stepped x) (x .outer-steps .ensures)) }
-
 state-weight-requires : tie.Need-state-weight-requires
 state-weight-requires c κs =
-    let r = ready (recounted (c .before .before .before .before .before .before)) in
+    let r = ready (recounted (c .before .before .before .before .before)) in
     let z = r .usable .table .sizes in
     (omega (arith, r .sized .len-difference, z .data-high), omega (arith, r .sized .len-syndrome, z .k-high))
 
+changed-by-requires : tie.Need-changed-by-requires
+changed-by-requires c κs =
+    let x = recounted (c .before .before .before .before .before .before) in
+    let d = before-steps x in
+    let b = start d in
+    omega (arith, stepped-few (codeAt b) (b .args .block) _ _ _ (opens b) (passed d) (d .decode-page .ensures .0) (fits x) (stepped x) (x .outer-steps .ensures))
+
+ended-requires : tie.Need-ended-requires
+ended-requires c κs = search needs
+
+-- the lengths, by what each call leaves: the zeros counted anew, the zeros cleared, what the steps leave and what the passes leave
+abbrev anew : tie.After-ended → tie.After-zeros3
+anew c = c .before .before .before .before .before .before
+
+abbrev cleared : tie.After-ended → tie.After-zeros2
+cleared c = anew c .before .before .before .before .before
+
+abbrev after-steps : tie.After-ended → tie.After-slice-known13
+after-steps c = cleared c .before .before .before .before
+
+abbrev after-passes : tie.After-ended → tie.After-d
+after-passes c = some (steps (after-steps c)) .before .before .before .before
+
 same-length : tie.Need-same-length
-same-length c = search needs
+same-length c = omega (arith, anew c .zeros3 .given, cleared c .zeros2 .given, after-passes c .before .before .before .before .before .before .before .before .zeros .given)
 
 same-length-2 : tie.Need-same-length-2
-same-length-2 c = search needs
+same-length-2 c = omega (arith, after-passes c .before .before .before .before .before .before .counters .given)
 
 same-length-3 : tie.Need-same-length-3
-same-length-3 c = search needs
+same-length-3 c = omega (arith, after-steps c .before .before .before .before .before .result2 .given, after-passes c .before .before .before .before .result .given)
 
 same-length-4 : tie.Need-same-length-4
-same-length-4 c = search needs
+same-length-4 c = omega (arith, after-steps c .before .before .before .s2 .given, after-passes c .before .before .s .given)
 
 same-length-5 : tie.Need-same-length-5
-same-length-5 c = search needs
+same-length-5 c = omega (arith, after-steps c .before .d2 .given, after-passes c .d .given)
 
 -- some steps are made
 returns : tie.Need-returns
 unfolding stateWeight
 returns c =
-    let k = c .before .before .before .before .before .before in
+    let w = c .before .before in
+    let k = w .before .before .before .before .before in
     let x = recounted (k .before) in
     let d = before-steps x in
     let b = start d in (
-      steps-corrected (codeAt b) _ _ _ _ (opens b) (passed d) (d .decode-page .ensures .0) (fits x) (stepped x) (x .outer-steps .ensures) _ (c .state-weight .ensures),
+      both refl (c .ended .ensures ∙ ap (ended (w .state-weight .result)) (c .before .changed-by .ensures))
+          ∙ steps-corrected (codeAt b) _ _ _ _ (opens b) (passed d) (d .decode-page .ensures .0) (fits x) (stepped x) (x .outer-steps .ensures) _ (w .state-weight .ensures),
       (λ n. k .count-zeros .ensures, d .decode-page .ensures .1 .1),
     )
 
@@ -196,8 +220,9 @@ correct-page-spec =
     outer-steps-requires
     clear-requires
     count-zeros-requires
-    add-t39
     state-weight-requires
+    changed-by-requires
+    ended-requires
     same-length
     same-length-2
     same-length-3
