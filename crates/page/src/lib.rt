@@ -18,7 +18,7 @@ pub fn encode(q: u32, k: u32, b: u32, positions: &[u16], data: &[u8], page: &mut
         bits: false,
     };
     let n = params::data_count(code);
-    let fits = answers::two_fit(data.len(), n, page.len(), n + code.k);
+    let fits = lengths::two_fit(data.len(), n, page.len(), n + code.k);
     let number = answers::page_answer(code, positions, fits, data);
     if number != 0 {
         return number;
@@ -43,7 +43,7 @@ pub fn syndrome(q: u32, k: u32, b: u32, positions: &[u16], page: &[u8], s: &mut 
         bits: false,
     };
     let n = params::data_count(code);
-    let fits = answers::two_fit(page.len(), n + code.k, s.len(), code.k);
+    let fits = lengths::two_fit(page.len(), n + code.k, s.len(), code.k);
     let number = answers::page_answer(code, positions, fits, page);
     if number != 0 {
         return number;
