@@ -43,7 +43,7 @@ pub fn decode_counters(
         b: b as usize,
         bits: false,
     };
-    let fit = answers::counters_fit(counters);
+    let fit = lengths::counters_fit(counters);
     let mut positions = [0u16; 256];
     let mut zeros = [0u8; 4096];
     let n = position_bytes::read_positions(table, &mut positions);

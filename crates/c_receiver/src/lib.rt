@@ -41,9 +41,9 @@ pub fn decode_into(
     ensures kept { λ r. ⌜ now (counters .exit) ≡ now (counters .entry) ⌝ }
 {
     let n = params::data_count(code);
-    let bytes = answers::bytes_fit(margins.len(), n, counts.len());
+    let bytes = lengths::bytes_fit(margins.len(), n, counts.len());
     let decoded = receiver::decode_with(
-        answers::also(others, bytes),
+        lengths::also(others, bytes),
         n,
         code,
         positions,

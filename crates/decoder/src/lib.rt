@@ -110,7 +110,7 @@ pub fn decode_counters(
         (record { passes = r .tally .passes; changes = r .tally .changes; start = r .tally .start; end = r .tally .end })) ⌝ }
     ensures recovery { λ r. ⌜ (r .number ≡ 0 → DecodeRecovers (codeOf q k b (now (positions .entry))) (now (thresholds .entry)) (now (page .entry)) (now (result .exit))) ⌝ }
 {
-    let fit = answers::counters_fit(counters);
+    let fit = lengths::counters_fit(counters);
     decode_blocks(
         fit,
         q,

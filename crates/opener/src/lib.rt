@@ -26,7 +26,7 @@ pub fn open(
         bits: false,
     };
     let n = params::data_count(code);
-    let fits = answers::decode_fits(
+    let fits = lengths::decode_fits(
         true,
         n,
         code.k,

@@ -76,7 +76,7 @@ pub fn encode_outer(
         bits: false,
     };
     let n = params::data_count(code);
-    let fits = answers::two_fit(data.len(), n, page.len(), n + code.k);
+    let fits = lengths::two_fit(data.len(), n, page.len(), n + code.k);
     let number = answers::encode_outer_answer(code, positions, block as usize, fits, data);
     if number != 0 {
         return number;

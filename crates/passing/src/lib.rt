@@ -41,7 +41,7 @@ pub fn pass_with(
         (stateBy (now (result .entry)) (now (syndrome .entry)) (now (difference .entry)))) ⌝ }
 {
     let n = params::data_count(code);
-    let fits = answers::state_fits(
+    let fits = lengths::state_fits(
         others,
         n,
         code.k,

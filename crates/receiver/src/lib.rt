@@ -44,7 +44,7 @@ pub fn decode_with(
     ensures left { λ r. ⌜ (r .number ≡ 0 → Left (codeBy code (now (positions .entry))) (now (syndrome .exit)) (now (difference .exit)) (now (zeros .exit)) (r .tally .end)) ⌝ }
     ensures kept { λ r. ⌜ now (counters .exit) ≡ now (counters .entry) ⌝ }
 {
-    let fits = answers::decode_fits(
+    let fits = lengths::decode_fits(
         others,
         n,
         code.k,
@@ -106,7 +106,7 @@ pub fn decode_into(
 {
     let n = params::data_count(code);
     let got = decode_with(
-        answers::also(others, margins.len() == n),
+        lengths::also(others, margins.len() == n),
         n,
         code,
         positions,

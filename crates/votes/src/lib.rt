@@ -81,7 +81,7 @@ pub extern "C" fn qmtd_bench_votes_counted(lists: &[u8], each: u32, counters: &m
     ensures kept { λ r. ⌜ now (counters .exit) ≡ now (counters .entry) ⌝ }
 {
     let size = each as usize;
-    if !answers::counters_fit(counters) {
+    if !lengths::counters_fit(counters) {
         return 0;
     }
     if !table::within(2, 33, size) {

@@ -7,8 +7,8 @@ use Prim.Native.Nat.{ℕ, _*_, _/_, _%_}
 use native.Mathlib.Decide.{ℕ-discrete}
 use native.Mathlib.Omega.{arith}
 use lib.Dec.{eqb}
-use Rattle.answers.proofs.bytes_fit.Statement.{statement}
-use Rattle.answers.proofs.bytes_fit.Tie as tie
+use Rattle.lengths.proofs.bytes_fit.Statement.{statement}
+use Rattle.lengths.proofs.bytes_fit.Tie as tie
 
 quarter : (m n : ℕ) → m % 4 ≡ 0 → eqb (m / 4) n ≡ eqb m (4 * n)
 quarter m n d = elim (ℕ-discrete m (4 * n)) as (λ o. eqb (m / 4) n ≡ eqb m (4 * n)) [

@@ -3,8 +3,8 @@ use borrow.Author.Needs.{needs}
 use borrow.Author.Tests.{eq-eqb, ne-eqb}
 use mathlib.Core.Path.{refl}
 use Rattle.model.specs.Calls.{countersFit}
-use Rattle.answers.proofs.counters_fit.Statement.{statement}
-use Rattle.answers.proofs.counters_fit.Tie as tie
+use Rattle.lengths.proofs.counters_fit.Statement.{statement}
+use Rattle.lengths.proofs.counters_fit.Tie as tie
 
 returns : tie.Need-returns
 unfolding countersFit

@@ -6,8 +6,8 @@ use mathlib.Core.Path.{_≡_, refl}
 use Prim.Native.Nat.{_+_}
 use lib.Dec.{eqb}
 use native.Mathlib.Omega.{arith}
-use Rattle.answers.proofs.decode_fits.Statement.{statement}
-use Rattle.answers.proofs.decode_fits.Tie as tie
+use Rattle.lengths.proofs.decode_fits.Statement.{statement}
+use Rattle.lengths.proofs.decode_fits.Tie as tie
 
 -- where the second of three does not hold, not all hold
 none : (a b c : Bool) → b ≡ false → false ≡ (a && (b && c))

@@ -1,8 +1,8 @@
 -- `state_fits` is its conditions in order, each where those before it hold.
 use borrow.Author.Needs.{needs}
 use borrow.Author.Tests.{eq-eqb, ne-eqb, not-true, not-false}
-use Rattle.answers.proofs.state_fits.Statement.{statement}
-use Rattle.answers.proofs.state_fits.Tie as tie
+use Rattle.lengths.proofs.state_fits.Statement.{statement}
+use Rattle.lengths.proofs.state_fits.Tie as tie
 
 returns : tie.Need-returns
 returns c = simp (not-true (c .before .args .others) (c .if1 .taken))

@@ -1,7 +1,7 @@
 -- `two_fit`: where the lengths of the first pair differ the answer is false, else it is the second comparison.
 use borrow.Author.Tests.{eq-eqb, ne-eqb}
-use Rattle.answers.proofs.two_fit.Statement.{statement}
-use Rattle.answers.proofs.two_fit.Tie as tie
+use Rattle.lengths.proofs.two_fit.Statement.{statement}
+use Rattle.lengths.proofs.two_fit.Tie as tie
 
 returns : tie.Need-returns
 returns c = simp (ne-eqb _ _ (c .if1 .taken))
