@@ -78,7 +78,7 @@ extern "C" {
 
 #define QMTD_VERSION_MAJOR 0
 #define QMTD_VERSION_MINOR 9
-#define QMTD_VERSION_PATCH 2
+#define QMTD_VERSION_PATCH 3
 #define QMTD_VERSION_NUMBER (QMTD_VERSION_MAJOR * 10000 + QMTD_VERSION_MINOR * 100 + QMTD_VERSION_PATCH)
 
 /* ---- Limits, both ends included ---- */
