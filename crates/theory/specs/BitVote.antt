@@ -12,6 +12,7 @@ use lib.Count.{ones}
 use lib.Dec.{T, eqb, ltb, lt→ltb, ltb→lt}
 use lib.IntN.{pos, _-ℤ_}
 use lib.ListN.{length}
+use borrow.Author.Tests.{lt-ltb, le-ltb}
 use Rattle.model.specs.Decoder.{State, Visit, estimates, isChange, change, changes, visit}
 use Rattle.model.specs.Symbols.{choose, bit, add, sub, same, count, Below}
 use Rattle.model.specs.Vote.{votes, leader, leadCount, nextCount, margin, equalBits, gathered, zerosIn, onesDecide, bitVotes}
@@ -184,6 +185,17 @@ module _ (es : List ℕ) (low : Below 2 es) where
         and-false true = refl
         and-false false = refl
 
+    -- the zeros alone tell it: counted twice, and with t, they are fewer than the bits
+    pub change-zeros : (t : ℕ) → isChange t es ≡ ltb (count 0 es + count 0 es + t) (length es)
+    unfolding onesDecide
+    change-zeros t = change-bits t ∙ rw (word-zeros, word-ones) (elim (decLt (count 0 es + count 0 es + t) (length es))
+        as (λ o. ltb t (count 1 es - count 0 es) ≡ ltb (count 0 es + count 0 es + t) (length es)) [
+          | yes h ↦
+              rw (lt-ltb t (count 1 es - count 0 es) (omega (arith, bits-all es low)), lt-ltb (count 0 es + count 0 es + t) (length es) h) refl
+          | no n ↦
+              rw (le-ltb t (count 1 es - count 0 es) (omega (arith, bits-all es low)), le-ltb (count 0 es + count 0 es + t) (length es) (omega arith)) refl
+        ])
+
     -- and what is then subtracted is 1
     pub change-one : (t : ℕ) → isChange t es ≡ true → leader es ≡ 1
     change-one t e = elim (decLt (count 0 es) (count 1 es)) as (λ o. leader es ≡ 1) [
@@ -214,6 +226,12 @@ module _ (es : List ℕ) (low : Below 2 es) where
 estimated : (is : List ℕ) (j : ℕ) (st : State) → 0 < length (estimates is j st)
 unfolding estimates
 estimated is j st = omega arith
+
+-- it changes where the zeros, counted twice, and its threshold are fewer than its estimates
+pub visit-zeros : (checks : ℕ → List ℕ) (v : Visit) (st : State) → let es = estimates (checks (v .symbol)) (v .symbol) st in Below 2 es
+    → changes checks v st ≡ ltb (count 0 es + count 0 es + v .threshold) (length es)
+unfolding changes
+visit-zeros checks v st low = change-zeros (estimates (checks (v .symbol)) (v .symbol) st) low (estimated (checks (v .symbol)) (v .symbol) st) (v .threshold)
 
 -- it changes where the ones decide so, and then subtracts 1
 pub visit-bits : (checks : ℕ → List ℕ) (v : Visit) (st : State) → let es = estimates (checks (v .symbol)) (v .symbol) st in Below 2 es

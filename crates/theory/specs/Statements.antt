@@ -22,7 +22,7 @@ use Rattle.model.specs.Outer.{blockSum, blockCount, outerWord, reliabilityOf, l
 use Rattle.model.specs.Symbols.{choose, add, sub, same, count, tabulate, addEach, subEach, Below}
 use Rattle.model.specs.Vote.{leader, leadCount, nextCount, votes, votesRead, counted, margin, ground, equalBits, gathered, zerosIn, onesDecide, bitVotes}
 use Rattle.theory.specs.Answers.{table-accepted, table-accepts, table-usable, Opens, Taken, decode-taken, decode-opens, open-taken, pass-taken, explain-takes, explain-taken, BlockFits, encode-outer-taken, encode-symbols, encode-takes, encoded-data, decode-outer-taken}
-use Rattle.theory.specs.BitVote.{add-bits, sub-bits, turned-over, word-ones, word-zeros, vote-bits, change-bits, margin-bits, equal-bits, visit-bits}
+use Rattle.theory.specs.BitVote.{add-bits, sub-bits, turned-over, word-ones, word-zeros, vote-bits, change-bits, margin-bits, equal-bits, visit-bits, visit-zeros}
 use Rattle.theory.specs.Branches.{orthogonal-differences}
 use Rattle.theory.specs.BlockSums.{sum-before, sum-made, sum-left}
 use Rattle.theory.specs.Codes.{Usable, code-incidence, check-symbol, check-symbols}
@@ -744,6 +744,12 @@ bits-vote es low some = record {
 pub bits-visit : (checks : ℕ → List ℕ) (v : Visit) (st : State) → let es = estimates (checks (v .symbol)) (v .symbol) st in Below 2 es
     → visit 2 checks v st ≡ choose (onesDecide (v .threshold) (length es) (gathered es)) (change 2 (checks (v .symbol)) (v .symbol) 1 st) st
 bits-visit checks v st low = visit-bits checks v st low
+
+-- The zeros alone tell it, too: a visit on bits is a change exactly where the zeros among its J + 1 estimates, counted twice, and T are at most J. So a
+-- data symbol whose visit the zeros kept by the decoder do not settle is one that its visit changes.
+pub bits-zeros : (checks : ℕ → List ℕ) (v : Visit) (st : State) → let es = estimates (checks (v .symbol)) (v .symbol) st in Below 2 es
+    → changes checks v st ≡ ltb (count 0 es + count 0 es + v .threshold) (length es)
+bits-zeros checks v st low = visit-zeros checks v st low
 
 pub record BitsAdd (a b : ℕ) : Type 0 where
   pub sum : add 2 a b ≡ bitXor a b
