@@ -1,0 +1,3 @@
+-- What the contracts of the vote on bits cite, and their laws.
+pub mod Pages
+pub mod Words

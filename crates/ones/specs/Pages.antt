@@ -1,0 +1,15 @@
+-- On bit pages all symbols are bits.
+use mathlib.Core.Path.{_≡_}
+use mathlib.Core.Bool.{Bool, true}
+use mathlib.Core.List.{List}
+use Prim.Native.Nat.{ℕ, _≤_, _<_}
+use native.Mathlib.Omega.{arith}
+use Rattle.model.specs.Symbols.{Below}
+
+-- where the vote is by ones, a data symbol's own difference and the symbols of s are bits
+abbrev pub InBits : Bool → ℕ → List ℕ → Type 0
+InBits bits own s = bits ≡ true → (own < 2) × Below 2 s
+
+-- as symbols below a q of at most 2 are
+pub bits-low : (bits : Bool) (q own : ℕ) (s : List ℕ) → (bits ≡ true → q ≤ 2) → own < q → Below q s → InBits bits own s
+bits-low bits q own s h o b e = (omega (arith, h e), (λ i. omega (arith, h e, b i)))
