@@ -25,8 +25,9 @@ pub fn state_weight(d: &[u8], s: &[u8]) -> u32
 
 // Decodes a page that was tested. A page at distance 0 needs no visit to know that its passes are idle.
 // zeros has one byte a data symbol, all zero; afterwards, where the distance at the end is not 0, the zeros at the checks of each.
-// counters are 256 for a vote by them, or none, and all zero.
+// counters are 256 for a vote by them, or none, and all zero; `bits`, the code's, is handed down by itself.
 pub fn decode_page(
+    bits: bool,
     code: Params,
     positions: &[u16],
     page: &[u8],
@@ -40,7 +41,8 @@ pub fn decode_page(
     requires { ⌜ Taken (codeBy code (now positions)) (now page) (now thresholds) (stateBy (now result) (now s) (now d))
         × (length (now zeros) ≡ dataCount (codeBy code (now positions)))
         × Clear (now zeros)
-        × Clear (now counters) ⌝ }
+        × Clear (now counters)
+        × (bits ≡ code .bits) ⌝ }
     ensures done { λ t. ⌜ progress (now (result .exit)) (now (s .exit)) (now (d .exit)) t
         ≡ decoded (codeBy code (now (positions .entry))) (now (thresholds .entry)) (now (page .entry)) ⌝ }
     ensures counted { λ t. ⌜ (t .end ≢ 0 → now (zeros .exit) ≡ zeroCounts (codeBy code (now (positions .entry))) (now (s .exit))) ⌝ }
@@ -53,6 +55,7 @@ pub fn decode_page(
     }
     let opened = Tally::opened(start);
     let ran = passes::run(
+        bits,
         code,
         positions,
         thresholds,

@@ -17,8 +17,9 @@ ghost use Rattle.outer_correction.specs.Corrected.{corrected};
 // Corrects a page that was tested. Where the passes leave no distance no block has a step, whatever it sums to; blocks of 1, which are
 // those of decode, have none.
 // zeros has one byte a data symbol, all zero; afterwards, where the distance at the end is not 0, the zeros at the checks of each.
-// counters are 256 for a vote by them, or none, and all zero.
+// counters are 256 for a vote by them, or none, and all zero; `bits`, the code's, is handed down by itself.
 pub fn correct_page(
+    bits: bool,
     code: Params,
     positions: &[u16],
     block: usize,
@@ -34,13 +35,15 @@ pub fn correct_page(
         × Blocks (codeBy code (now positions)) block
         × (length (now zeros) ≡ dataCount (codeBy code (now positions)))
         × Clear (now zeros)
-        × Clear (now counters) ⌝ }
+        × Clear (now counters)
+        × (bits ≡ code .bits) ⌝ }
     ensures done { λ t. ⌜ progress (now (result .exit)) (now (s .exit)) (now (d .exit)) t
         ≡ corrected (codeBy code (now (positions .entry))) block (now (thresholds .entry)) (now (page .entry)) ⌝ }
     ensures counted { λ t. ⌜ (t .end ≢ 0 → now (zeros .exit) ≡ zeroCounts (codeBy code (now (positions .entry))) (now (s .exit))) ⌝ }
     ensures kept { λ t. ⌜ now (counters .exit) ≡ now (counters .entry) ⌝ }
 {
     let ran = correction::decode_page(
+        bits,
         code,
         positions,
         page,

@@ -3,6 +3,7 @@ use checks::Place;
 use params::Params;
 use tally::Tally;
 ghost use mathlib.Core.Path.{_≡_};
+ghost use mathlib.Core.Bool.{true};
 ghost use Prim.Native.Nat.{_≤_};
 ghost use lib.ListN.{length};
 ghost use Rattle.model.specs.Code.{dataCount};
@@ -15,6 +16,7 @@ ghost use Rattle.passes.specs.Runs.{runOf};
 
 // Passes with the thresholds in order. A pass goes from one data symbol that the zeros do not settle to the next. An idle pass is followed by the first later one whose threshold is smaller; if there is none, they end.
 fn run_counted(
+    bits: bool,
     code: Params,
     positions: &[u16],
     thresholds: &[u8],
@@ -29,7 +31,8 @@ fn run_counted(
         × (length (now thresholds) ≤ 64)
         × (opened .changes ≡ 0)
         × (now zeros ≡ zeroCounts (codeBy code (now positions)) (now syndrome))
-        × Clear (now counters) ⌝ }
+        × Clear (now counters)
+        × (bits ≡ true → code .q ≤ 2) ⌝ }
     ensures ran { λ t. ⌜ progress (now (result .exit)) (now (syndrome .exit)) (now (difference .exit)) t
         ≡ runOf (codeBy code (now (positions .entry))) (now (thresholds .entry)) (progress (now (result .entry)) (now (syndrome .entry)) (now (difference .entry)) opened) ⌝ }
     ensures counted { λ t. ⌜ now (zeros .exit) ≡ zeroCounts (codeBy code (now (positions .entry))) (now (syndrome .exit)) ⌝ }
@@ -56,6 +59,7 @@ fn run_counted(
                     break;
                 }
                 tally = visits::visit(
+                    bits,
                     code,
                     positions,
                     at,
@@ -84,8 +88,10 @@ fn run_counted(
 }
 
 // The passes of a decode, from an opened page. The zeros at the checks of every data symbol are counted first, into a lent buffer of
-// one byte a data symbol, all zero before, which afterwards has those of the syndrome that is left. The visits vote by the counters, where 256 are lent.
+// one byte a data symbol, all zero before, which afterwards has those of the syndrome that is left. The visits vote by the counters, where 256 are lent;
+// `bits` as in `visit`.
 pub fn run(
+    bits: bool,
     code: Params,
     positions: &[u16],
     thresholds: &[u8],
@@ -101,7 +107,8 @@ pub fn run(
         × (opened .changes ≡ 0)
         × (length (now zeros) ≡ dataCount (codeBy code (now positions)))
         × Clear (now zeros)
-        × Clear (now counters) ⌝ }
+        × Clear (now counters)
+        × (bits ≡ true → code .q ≤ 2) ⌝ }
     ensures ran { λ t. ⌜ progress (now (result .exit)) (now (syndrome .exit)) (now (difference .exit)) t
         ≡ runOf (codeBy code (now (positions .entry))) (now (thresholds .entry)) (progress (now (result .entry)) (now (syndrome .entry)) (now (difference .entry)) opened) ⌝ }
     ensures counted { λ t. ⌜ now (zeros .exit) ≡ zeroCounts (codeBy code (now (positions .entry))) (now (syndrome .exit)) ⌝ }
@@ -109,6 +116,7 @@ pub fn run(
 {
     zeros::count_zeros(code, positions, syndrome, zeros);
     run_counted(
+        bits,
         code,
         positions,
         thresholds,

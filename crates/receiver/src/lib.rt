@@ -17,9 +17,10 @@ ghost use Rattle.receiver.specs.Received.{countsOf, ranOutcome};
 
 // Decodes a received page into the result, S and D, for every form of the call: `others` says whether the buffers that only
 // one form lends fit, n is the number of data symbols, and zeros, which the form keeps on its stack, all zero, is what the margins
-// are then filled from. The visits vote by the counters, where 256 are lent.
+// are then filled from. The visits vote by the counters, where 256 are lent; `bits`, the code's, is handed down by itself.
 pub fn decode_with(
     others: bool,
+    bits: bool,
     n: usize,
     code: Params,
     positions: &[u16],
@@ -32,7 +33,8 @@ pub fn decode_with(
     syndrome: &mut [u8],
     difference: &mut [u8],
 ) -> Decoded
-    requires { ⌜ (n ≡ code .b * code .k) × (n ≤ 4096 → n ≤ length (now zeros)) × Clear (now zeros) × (others ≡ true → Clear (now counters)) ⌝ }
+    requires { ⌜ (n ≡ code .b * code .k) × (n ≤ 4096 → n ≤ length (now zeros)) × Clear (now zeros) × (others ≡ true → Clear (now counters))
+        × (bits ≡ code .bits) ⌝ }
     ensures outcome { λ r. ⌜ record {
       number = r .number;
       left = record { state = stateBy (now (result .exit)) (now (syndrome .exit)) (now (difference .exit)); counts = countsOf (r .tally) };
@@ -61,6 +63,7 @@ pub fn decode_with(
         };
     }
     let tally = outer_correction::correct_page(
+        bits,
         code,
         positions,
         block,
@@ -75,9 +78,10 @@ pub fn decode_with(
     Decoded { number: 0, tally }
 }
 
-// Decode in its Rattle form, with a buffer for the zeros; `others` as in `decode_with`.
+// Decode in its Rattle form, with a buffer for the zeros; `others` and `bits` as in `decode_with`.
 pub fn decode_into(
     others: bool,
+    bits: bool,
     code: Params,
     positions: &[u16],
     block: usize,
@@ -92,7 +96,8 @@ pub fn decode_into(
 ) -> Decoded
     requires { ⌜ (code .k ≤ 4294967295) × (code .b ≤ 4294967295) × (code .b * code .k ≤ 4096 → code .b * code .k ≤ length (now zeros))
         × Clear (now zeros)
-        × (others ≡ true → Clear (now counters)) ⌝ }
+        × (others ≡ true → Clear (now counters))
+        × (bits ≡ code .bits) ⌝ }
     ensures outcome { λ r. ⌜ record {
       number = r .number;
       left = record {
@@ -107,6 +112,7 @@ pub fn decode_into(
     let n = params::data_count(code);
     let got = decode_with(
         lengths::also(others, margins.len() == n),
+        bits,
         n,
         code,
         positions,

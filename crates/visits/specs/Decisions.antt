@@ -9,8 +9,9 @@ use native.Mathlib.Omega.{arith}
 use lib.Dec.{T}
 use lib.ListN.{length}
 use Rattle.model.specs.Decoder.{isChange}
-use Rattle.model.specs.Symbols.{choose, count, Below}
+use Rattle.model.specs.Symbols.{choose, bit, count, Below}
 use Rattle.model.specs.Vote.{leader, leadCount, nextCount}
+use Rattle.theory.specs.BitVote.{change-one}
 use Rattle.theory.specs.Counting.{is-true, is-false, count-misses, count-other}
 use Rattle.theory.specs.Falling.{choose-case, isChange-facts, isChange-make, isChange-zero}
 use Rattle.theory.specs.Voting.{leader-below, next-max}
@@ -45,6 +46,15 @@ subtract-leader t es h = elim (ℕ-discrete (leader es) 0) as (λ o. leader es �
   | yes e ↦ rw (isChange-zero t es e) e
   | no n ↦ rw (is-true (isChange t es) (isChange-make t es h n)) refl
 ]
+
+-- on bits, 1 where they are a change
+pub subtract-bit : (t : ℕ) (es : List ℕ) → Below 2 es → 0 < length es → bit (isChange t es) ≡ toSubtract t es
+unfolding toSubtract
+subtract-bit t es low some = go (isChange t es) refl
+  where
+    go : (b : Bool) → isChange t es ≡ b → bit b ≡ choose b (leader es) 0
+    go true e = sym (change-one es low some t e)
+    go false e = refl
 
 -- what it says of the visit
 pub subtract-zero : (t : ℕ) (es : List ℕ) → toSubtract t es ≡ 0 → isChange t es ≡ false

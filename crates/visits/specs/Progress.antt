@@ -1,7 +1,7 @@
 -- A decode under way: the state with its tally, and a visit on both.
 use mathlib.Core.Path.{_≡_, refl, sym, _∙_}
 use mathlib.Core.Logic.{_≢_}
-use mathlib.Core.Bool.{true, false}
+use mathlib.Core.Bool.{Bool, true, false}
 use mathlib.Core.List.{List}
 use Prim.Native.Nat.{ℕ, _+_, _≤_, _<_}
 use native.Mathlib.Omega.{arith}
@@ -14,6 +14,7 @@ use Rattle.theory.specs.Falling.{visit-no, visit-yes}
 use Rattle.theory.specs.Steps.{Sized, below-estimates}
 use Rattle.checks.specs.Places.{AtTable}
 use Rattle.checks.specs.Estimates.{estimatesAt}
+use Rattle.ones.specs.Pages.{InBits, bits-low}
 use Rattle.visits.specs.Decisions.{toSubtract, subtract-zero, subtract-some, subtract-below}
 use Rattle.tally.specs.declared.Tally.{Tally}
 
@@ -50,6 +51,10 @@ pub record Ready (c : Code) (st : State) : Type 0 where
 
 pub at-table : (c : Code) (st : State) → Ready c st → AtTable c (st .syndrome)
 at-table c st r = record { table = r .usable .table; len = r .sized .len-syndrome }
+
+-- where q is 2 it is a state of bits
+pub ready-bits : (c : Code) (st : State) → Ready c st → (bits : Bool) → (bits ≡ true → c .q ≤ 2) → (j : ℕ) → InBits bits (getD (st .difference) j 0) (st .syndrome)
+ready-bits c st r bits h j = bits-low bits (c .q) (getD (st .difference) j 0) (st .syndrome) h (r .sized .in-difference j) (r .sized .in-syndrome)
 
 -- what is subtracted is a symbol
 pub ready-subtract : (c : Code) (st : State) → Ready c st → (t j : ℕ) → toSubtract t (estimatesAt c j (getD (st .difference) j 0) (st .syndrome)) < c .q

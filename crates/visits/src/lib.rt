@@ -4,6 +4,7 @@ use params::Params;
 use tally::Tally;
 use vote::Vote;
 ghost use mathlib.Core.Path.{_≡_};
+ghost use mathlib.Core.Bool.{true};
 ghost use Prim.Native.Nat.{_+_, _<_, _≤_};
 ghost use lib.ListN.{length, getD, set};
 ghost use Rattle.model.specs.Code.{checksEach, checksOf};
@@ -15,6 +16,7 @@ ghost use Rattle.vote.specs.Leading.{voteOf};
 ghost use Rattle.vote.specs.Others.{others};
 ghost use Rattle.checks.specs.Checks.{AtChecks, estimatesBy};
 ghost use Rattle.checks.specs.Places.{Placed};
+ghost use Rattle.ones.specs.Pages.{InBits};
 ghost use Rattle.zeros.specs.Counts.{zeroCounts};
 ghost use Rattle.open_symbols.specs.Settled.{Open};
 ghost use Rattle.visits.specs.Decisions.{toSubtract};
@@ -95,9 +97,10 @@ pub fn decided(es: &[u8], threshold: u8, counters: &mut [u8]) -> u8
     v.leader
 }
 
-// The same for the estimates of symbol j of a branch. A change needs a leader that stands more often among them than their zeros and
-// the threshold together, which a quick test tells before they are gathered.
+// The same for the estimates of symbol j of a branch. On bits, where `bits` says so, their ones decide. Else a change needs a leader that stands more often
+// among them than their zeros and the threshold together, which a quick test tells before they are gathered.
 fn full_vote(
+    bits: bool,
     code: Params,
     positions: &[u16],
     j: usize,
@@ -111,10 +114,14 @@ fn full_vote(
         × (j < code .k)
         × (zeros ≡ count 0 (estimatesBy (code .k) (now positions) j own (now syndrome)))
         × (zeros + threshold ≤ 255)
-        × Clear (now counters) ⌝ }
+        × Clear (now counters)
+        × InBits bits own (now syndrome) ⌝ }
     ensures subtracts { λ r. ⌜ r ≡ toSubtract threshold (estimatesBy (code .k) (now (positions .entry)) j own (now (syndrome .entry))) ⌝ }
     ensures kept { λ r. ⌜ now (counters .exit) ≡ now (counters .entry) ⌝ }
 {
+    if bits {
+        return ones::decided_at(code, positions, j, threshold, own, syndrome);
+    }
     if !quick_tests::lead_above(code, positions, j, own, syndrome, zeros + threshold) {
         return 0;
     }
@@ -125,8 +132,10 @@ fn full_vote(
 }
 
 // A visit to a data symbol, which the zeros do not settle, with one threshold. zeros has the zeros at the checks of each data
-// symbol, before and after; counters are 256 for a vote by them, or none, and all zero.
+// symbol, before and after; counters are 256 for a vote by them, or none, and all zero. `bits` says whether the vote is by ones; it is
+// handed down by itself, not in the code's numbers, so that it is a constant where the call's is.
 pub fn visit(
+    bits: bool,
     code: Params,
     positions: &[u16],
     place: Place,
@@ -143,7 +152,8 @@ pub fn visit(
         × (tally .changes < 4294967295)
         × (now zeros ≡ zeroCounts (codeBy code (now positions)) (now syndrome))
         × Clear (now counters)
-        × Open (checksEach (codeBy code (now positions))) threshold (now difference) (now zeros) (place .symbol) ⌝ }
+        × Open (checksEach (codeBy code (now positions))) threshold (now difference) (now zeros) (place .symbol)
+        × (bits ≡ true → code .q ≤ 2) ⌝ }
     ensures step { λ t. ⌜ progress (now (result .exit)) (now (syndrome .exit)) (now (difference .exit)) t
         ≡ visitOf (codeBy code (now (positions .entry))) (record { symbol = place .symbol; threshold = threshold })
         (progress (now (result .entry)) (now (syndrome .entry)) (now (difference .entry)) tally) ⌝ }
@@ -157,6 +167,7 @@ pub fn visit(
     let own = difference[j];
     let all = zeros[j] + symbols::equal(0, own);
     let h = full_vote(
+        bits,
         code,
         &positions[first..last],
         index,

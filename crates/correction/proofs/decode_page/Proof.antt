@@ -3,7 +3,7 @@ use borrow.Author.Needs.{needs}
 use mathlib.Core.Path.{_≡_, refl, sym, _∙_, ap, subst}
 use native.Mathlib.Omega.{arith}
 use Rattle.model.specs.Decoder.{State}
-use Rattle.params.specs.Codes.{in-bytes, codeBy}
+use Rattle.params.specs.Codes.{in-bytes, bits-two, codeBy}
 use Rattle.tally.specs.declared.Tally.{Tally}
 use Rattle.visits.specs.Progress.{progress, Ready, both}
 use Rattle.passes.specs.Runs.{runOf}
@@ -70,6 +70,7 @@ run-requires c κs =
       b .pre .1,
       b .pre .2,
       b .pre .3,
+      λ e. bits-two (a .code .bits) (a .code .q) (b .pre .0 .opens .high) (sym (b .pre .4) ∙ e),
     )
 
 -- what the passes left is the run from the opened page

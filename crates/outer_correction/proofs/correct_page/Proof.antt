@@ -44,7 +44,7 @@ opens b = b .pre .0 .opens
 
 -- what the passes and the steps leave
 abbrev passed : tie.After-decode-page → Progress
-passed c = progress (c .decode-page .last .1 .1 .1 .1 .1 .1 .0) (c .decode-page .last .1 .1 .1 .1 .1 .1 .1 .0) (c .decode-page .last .1 .1 .1 .1 .1 .1 .1 .1 .0) (c .decode-page .result)
+passed c = progress (c .decode-page .last .1 .1 .1 .1 .1 .1 .1 .0) (c .decode-page .last .1 .1 .1 .1 .1 .1 .1 .1 .0) (c .decode-page .last .1 .1 .1 .1 .1 .1 .1 .1 .1 .0) (c .decode-page .result)
 
 abbrev stepped : tie.After-outer-steps → Stepped
 stepped c = record { state = stateBy (c .outer-steps .last .1 .1 .1 .0) (c .outer-steps .last .1 .1 .1 .1 .0) (c .outer-steps .last .1 .1 .1 .1 .1 .0); steps = c .outer-steps .result }
@@ -54,7 +54,7 @@ fits : (x : tie.After-outer-steps) → let b = start (before-steps x) in BlockFi
 fits x = start (before-steps x) .pre .1 (some x .if2 .taken)
 
 decode-page-requires : tie.Need-decode-page-requires
-decode-page-requires c κs = let p = c .before .before .before .before .before .before .before .before .before .before .before .before .before .pre in (p .0, p .2, p .3, p .4)
+decode-page-requires c κs = let p = c .before .before .before .before .before .before .before .before .before .before .before .before .before .pre in (p .0, p .2, p .3, p .4, p .5)
 
 outer-steps-requires : tie.Need-outer-steps-requires
 outer-steps-requires c κs =

@@ -11,7 +11,7 @@ run-counted-requires : tie.Need-run-counted-requires
 run-counted-requires c κs =
     let z = c .before .before .before .before .before .before .before in
     let p = z .before .before .before .before .before .before .before .before .before .before .pre in
-    (p .0, p .1, p .2, z .count-zeros .ensures, p .5)
+    (p .0, p .1, p .2, z .count-zeros .ensures, p .5, p .6)
 
 same-length : tie.Need-same-length
 same-length c = search needs

@@ -18,7 +18,7 @@ use Rattle.passes.proofs.run_counted.Statement.{statement}
 use Rattle.passes.proofs.run_counted.Tie as tie
 
 abbrev Inv-loop3 : tie.InvT-loop3
-Inv-loop3 code positions thresholds result₀ syndrome₀ difference₀ zeros₀ counters₀ n symbols each tally₀ p count before threshold place at₀ result syndrome difference zeros counters tally at =
+Inv-loop3 bits code positions thresholds result₀ syndrome₀ difference₀ zeros₀ counters₀ n symbols each tally₀ p count before threshold place at₀ result syndrome difference zeros counters tally at =
     InBranch (codeBy code positions) place at
     × (progress result syndrome difference tally
     ≡ visitsFrom (codeBy code positions) threshold (place .symbol) (at .symbol - place .symbol) (progress result₀ syndrome₀ difference₀ tally₀))
@@ -26,22 +26,22 @@ Inv-loop3 code positions thresholds result₀ syndrome₀ difference₀ zeros₀
     × (counters ≡ counters₀)
 
 abbrev μ-loop3 : tie.MeasureT-loop3
-μ-loop3 code positions thresholds result₀ syndrome₀ difference₀ zeros₀ counters₀ n symbols each tally₀ p count before threshold place at₀ result syndrome difference zeros counters tally at =
+μ-loop3 bits code positions thresholds result₀ syndrome₀ difference₀ zeros₀ counters₀ n symbols each tally₀ p count before threshold place at₀ result syndrome difference zeros counters tally at =
     place .end - at .symbol
 
 abbrev Inv-loop2 : tie.InvT-loop2
-Inv-loop2 code positions thresholds result₀ syndrome₀ difference₀ zeros₀ counters₀ n symbols each tally₀ p count before threshold place₀ result syndrome difference zeros counters tally place =
+Inv-loop2 bits code positions thresholds result₀ syndrome₀ difference₀ zeros₀ counters₀ n symbols each tally₀ p count before threshold place₀ result syndrome difference zeros counters tally place =
     AtBranch (codeBy code positions) place
     × (progress result syndrome difference tally ≡ visits (codeBy code positions) threshold (place .symbol) (progress result₀ syndrome₀ difference₀ tally₀))
     × (zeros ≡ zeroCounts (codeBy code positions) syndrome)
     × (counters ≡ counters₀)
 
 abbrev μ-loop2 : tie.MeasureT-loop2
-μ-loop2 code positions thresholds result₀ syndrome₀ difference₀ zeros₀ counters₀ n symbols each tally₀ p count before threshold place₀ result syndrome difference zeros counters tally place =
+μ-loop2 bits code positions thresholds result₀ syndrome₀ difference₀ zeros₀ counters₀ n symbols each tally₀ p count before threshold place₀ result syndrome difference zeros counters tally place =
     symbols - place .symbol
 
 abbrev Inv-loop : tie.InvT-loop
-Inv-loop code positions thresholds result₀ syndrome₀ difference₀ zeros₀ counters₀ n symbols each tally₀ p₀ count₀ result syndrome difference zeros counters tally p count =
+Inv-loop bits code positions thresholds result₀ syndrome₀ difference₀ zeros₀ counters₀ n symbols each tally₀ p₀ count₀ result syndrome difference zeros counters tally p count =
     (count ≤ p)
     × (p ≤ n)
     × (zeros ≡ zeroCounts (codeBy code positions) syndrome)
@@ -51,7 +51,7 @@ Inv-loop code positions thresholds result₀ syndrome₀ difference₀ zeros₀ 
     × (counters ≡ counters₀)
 
 abbrev μ-loop : tie.MeasureT-loop
-μ-loop code positions thresholds result₀ syndrome₀ difference₀ zeros₀ counters₀ n symbols each tally₀ p₀ count₀ result syndrome difference zeros counters tally p count = n - p
+μ-loop bits code positions thresholds result₀ syndrome₀ difference₀ zeros₀ counters₀ n symbols each tally₀ p₀ count₀ result syndrome difference zeros counters tally p count = n - p
 
 -- ---- the places: the start and the outer loop, seen from the loops
 
@@ -203,7 +203,7 @@ visit-requires c κs =
     let b = branches i in
     let same = i .loop3 .inv .3 ∙ b .loop2 .inv .3 ∙ outer b .loop .inv .5 in
     let n = found t .open-from .ensures in
-    (kept-in i .ready, placed t, few-changes t, i .loop3 .inv .2, subst Clear (sym same) (start (outer b) .pre .4), omega (arith, n .open-here (omega (arith, t .if3 .left, same-end (i .loop3 .inv .0))), outer b .before .checks-each .ensures))
+    (kept-in i .ready, placed t, few-changes t, i .loop3 .inv .2, subst Clear (sym same) (start (outer b) .pre .4), omega (arith, n .open-here (omega (arith, t .if3 .left, same-end (i .loop3 .inv .0))), outer b .before .checks-each .ensures), start (outer b) .pre .5)
 
 -- the visit, seen from where the place after it is taken, and the turn that made it
 abbrev visited : tie.After-slice-known10 Inv-loop3 μ-loop3 Inv-loop2 μ-loop2 Inv-loop μ-loop → tie.After-visit Inv-loop3 μ-loop3 Inv-loop2 μ-loop2 Inv-loop μ-loop

@@ -90,6 +90,7 @@ correct-page-requires c κs =
       clear-front (a .n) (a .zeros .now) (b .pre .2),
       b .pre .3
           (decode-opens _ (a .others) (a .page .now) (a .thresholds .now) (stateBy (a .result .now) (a .syndrome .now) (a .difference .now)) (answers e .0) .0),
+      b .pre .4,
     )
 
 same-length : tie.Need-same-length

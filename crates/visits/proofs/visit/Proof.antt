@@ -12,7 +12,7 @@ use Rattle.checks.specs.Places.{Found, found}
 use Rattle.zeros.specs.Counts.{length-zeroCounts, zeroCounts-at}
 use Rattle.visits.specs.Decisions.{toSubtract}
 use Rattle.checks.specs.Estimates.{estimatesAt, zeros-counted}
-use Rattle.visits.specs.Progress.{both, at-table, ready-subtract, ready-symbol, changed-state, visit-left, visit-made}
+use Rattle.visits.specs.Progress.{both, at-table, ready-bits, ready-subtract, ready-symbol, changed-state, visit-left, visit-made}
 use Rattle.visits.proofs.visit.Statement.{statement}
 use Rattle.visits.proofs.visit.Tie as tie
 
@@ -89,6 +89,7 @@ full-vote-requires c κs =
           (q .equal .ensures .0),
       omega (arith, q .equal .ensures .0, b .pre .5, b .pre .0 .usable .table .sizes .J-high),
       b .pre .4,
+      ready-bits _ _ (b .pre .0) (a .bits) (b .pre .6) (a .place .symbol),
     )
 
 same-length : tie.Need-same-length
