@@ -9,10 +9,11 @@ use native.Mathlib.Omega.{arith}
 use Rattle.model.specs.Calls.{stateFits, explainAnswer, explained, explainOutcome}
 use Rattle.model.specs.Code.{Code, dataCount}
 use Rattle.model.specs.Decoder.{State, stateBy, estimates}
-use Rattle.params.specs.Codes.{codeBy}
+use Rattle.params.specs.Codes.{bits-two, codeBy}
 use Rattle.params.specs.Sizes.{sizes-fit}
 use Rattle.theory.specs.Answers.{PassTaken, pass-taken, explain-taken, table-usable}
 use Rattle.theory.specs.Outcomes.{left-as-lent, left-as-done}
+use Rattle.ones.specs.Pages.{bits-low}
 use Rattle.grounds.specs.declared.Told.{Told}
 use Rattle.explainer.proofs.explain_with.Statement.{statement}
 use Rattle.explainer.proofs.explain_with.Tie as tie
@@ -67,7 +68,13 @@ taken c =
 tell-symbol-requires : tie.Need-tell-symbol-requires
 tell-symbol-requires c κs =
     let t = taken c in
-    (record { table = table-usable _ (t .0 .table) .table; len = t .0 .sized .len-syndrome }, t .0 .sized .len-difference, t .1)
+    let z = t .0 .sized in
+    let a = start (c .before) .args in (
+      record { table = table-usable _ (t .0 .table) .table; len = z .len-syndrome },
+      z .len-difference,
+      t .1,
+      bits-low (a .code .bits) (a .code .q) _ (a .syndrome .now) (bits-two (a .code .bits) (a .code .q) (t .0 .high)) (z .in-difference (a .symbol)) (z .in-syndrome),
+    )
 
 returns-2 : tie.Need-returns-2
 unfolding explainOutcome explained estimates

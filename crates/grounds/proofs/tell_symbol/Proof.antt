@@ -1,16 +1,18 @@
 -- `tell_symbol`: the part of the buffer that is told of holds the estimates.
 use borrow.Author.Needs.{needs}
-use mathlib.Core.Path.{_≡_, sym, _∙_, ap}
+use mathlib.Core.Path.{sym, subst, _∙_, ap}
 use mathlib.Core.List.{List, _++_}
 use Prim.Native.Nat.{ℕ, _+_}
 use native.Mathlib.Omega.{arith}
 use lib.ListN.{length, getD, take, drop, replicate, length-append}
 use lib.Seq.{length-take-le}
 use Rattle.model.specs.Code.{Code, checksOf}
+use Rattle.model.specs.Symbols.{Below}
 use Rattle.theory.specs.Branches.{checks-length}
 use Rattle.theory.specs.Counting.{length-symbolsAt}
 use Rattle.params.specs.Codes.{codeBy}
 use Rattle.checks.specs.Estimates.{estimatesAt, Gathered, gathered-at}
+use Rattle.ones.specs.Words.{estimates-low}
 use Rattle.grounds.specs.Told.{toldOf}
 use Rattle.grounds.proofs.tell_symbol.Statement.{statement}
 use Rattle.grounds.proofs.tell_symbol.Tie as tie
@@ -69,7 +71,11 @@ slice-aggregate-tell : tie.Need-slice-aggregate-tell
 slice-aggregate-tell c = sym (part (c .before .before) .len)
 
 tell-requires : tie.Need-tell-requires
-tell-requires c κs = let g = part (c .before .before) in (g .low, g .high)
+tell-requires c κs =
+    let a = c .before .before in
+    let g = part a in
+    let b = start a in
+    (g .low, g .high, λ e. let low = b .pre .3 e in subst (λ (l : List ℕ). Below 2 l) (sym (g .same)) (estimates-low _ _ _ (low .0) (low .1)))
 
 returns : tie.Need-returns
 returns c = c .tell .ensures ∙ ap (λ (l : List ℕ). toldOf (start (c .before .before .before) .args .threshold) l) (part (c .before .before .before) .same)
