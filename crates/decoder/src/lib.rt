@@ -3,17 +3,19 @@ use params::Params;
 pub use tally::Decoded;
 ghost use mathlib.Core.Path.{_≡_};
 ghost use mathlib.Core.Bool.{true};
-ghost use Rattle.model.specs.Code.{codeOf};
+ghost use Rattle.model.specs.Code.{codeIn, codeOf};
 ghost use Rattle.model.specs.Decoder.{stateBy};
 ghost use Rattle.model.specs.Calls.{decodeOutcome, decodeCountersOutcome};
 ghost use Rattle.model.specs.Demand.{DecodeFalls, DecodeRecovers};
+ghost use Rattle.params.specs.Codes.{profileOf};
 ghost use Rattle.theory.specs.Counters.{Clear};
 ghost use Rattle.theory.specs.InBlocks.{decodeForm};
 
 // Decodes a received page in blocks, for every call, with the counters that are lent, or none; `others` says whether these fit. Blocks of 1
-// are those of decode. A small code clears a small buffer for the zeros.
+// are those of decode; `bits` says whether the profile is that of bit pages. A small code clears a small buffer for the zeros.
 pub fn decode_blocks(
     others: bool,
+    bits: bool,
     q: u32,
     k: u32,
     b: u32,
@@ -35,7 +37,7 @@ pub fn decode_blocks(
         margins = now (margins .exit);
         counts = record { passes = r .tally .passes; changes = r .tally .changes; start = r .tally .start; end = r .tally .end };
       };
-    } ≡ decodeForm (codeOf q k b (now (positions .entry))) block others (now (page .entry)) (now (thresholds .entry))
+    } ≡ decodeForm (codeIn (profileOf bits) q k b (now (positions .entry))) block others (now (page .entry)) (now (thresholds .entry))
         (stateBy (now (result .entry)) (now (syndrome .entry)) (now (difference .entry))) (now (margins .entry)) ⌝ }
     ensures kept { λ r. ⌜ now (counters .exit) ≡ now (counters .entry) ⌝ }
 {
@@ -43,12 +45,13 @@ pub fn decode_blocks(
         q,
         k: k as usize,
         b: b as usize,
-        bits: false,
+        bits,
     };
     if params::data_count(code) <= 128 {
         let mut few = [0u8; 128];
         return receiver::decode_into(
             others,
+            bits,
             code,
             positions,
             block,
@@ -65,6 +68,7 @@ pub fn decode_blocks(
     let mut zeros = [0u8; 4096];
     receiver::decode_into(
         others,
+        bits,
         code,
         positions,
         block,
@@ -113,6 +117,7 @@ pub fn decode_counters(
     let fit = lengths::counters_fit(counters);
     decode_blocks(
         fit,
+        false,
         q,
         k,
         b,
@@ -158,6 +163,7 @@ pub fn decode(
     let mut none = [0u8; 0];
     decode_blocks(
         true,
+        false,
         q,
         k,
         b,

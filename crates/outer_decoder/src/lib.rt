@@ -39,6 +39,7 @@ pub fn decode_outer(
     let mut none = [0u8; 0];
     decoder::decode_blocks(
         true,
+        false,
         q,
         k,
         b,

@@ -1,5 +1,6 @@
 -- `decode_blocks`: either buffer for the zeros is large enough; the rest is `decode_into`'s.
 use borrow.Author.Needs.{needs}
+use mathlib.Core.Path.{refl}
 use native.Mathlib.Omega.{arith}
 use Rattle.params.specs.Sizes.{sizes-fit}
 use Rattle.theory.specs.Counters.{clear-made}
@@ -17,7 +18,7 @@ slice-aggregate-decode-into c = search needs
 decode-into-requires : tie.Need-decode-into-requires
 decode-into-requires c κs =
     let t = c .before .before .before .before .before .before in
-    (omega arith, omega arith, λ h. omega (arith, t .if1 .taken, t .before .data-count .ensures), clear-made 128, t .before .before .before .before .before .before .before .before .before .pre)
+    (omega arith, omega arith, λ h. omega (arith, t .if1 .taken, t .before .data-count .ensures), clear-made 128, t .before .before .before .before .before .before .before .before .before .pre, refl)
 
 same-length : tie.Need-same-length
 same-length c = search needs
@@ -41,7 +42,7 @@ slice-aggregate-decode-into-2 : tie.Need-slice-aggregate-decode-into-2
 slice-aggregate-decode-into-2 c = search needs
 
 decode-into-requires-2 : tie.Need-decode-into-requires-2
-decode-into-requires-2 c κs = (omega arith, omega arith, λ h. h, clear-made 4096, c .before .before .before .before .before .before .before .before .before .before .before .before .before .before .before .pre)
+decode-into-requires-2 c κs = (omega arith, omega arith, λ h. h, clear-made 4096, c .before .before .before .before .before .before .before .before .before .before .before .before .before .before .before .pre, refl)
 
 same-length-6 : tie.Need-same-length-6
 same-length-6 c = search needs

@@ -10,7 +10,7 @@ use native.Mathlib.Omega.{arith}
 use Rattle.model.specs.Calls.{stateFits, passAnswer, passOutcome}
 use Rattle.model.specs.Code.{Code}
 use Rattle.model.specs.Decoder.{State, stateBy}
-use Rattle.params.specs.Codes.{in-bytes, codeBy}
+use Rattle.params.specs.Codes.{in-bytes, bits-two, codeBy}
 use Rattle.params.specs.Sizes.{sizes-fit}
 use Rattle.tally.specs.declared.Tally.{Tally}
 use Rattle.theory.specs.Answers.{PassTaken, pass-taken, table-usable}
@@ -78,8 +78,8 @@ room c = start (c .before) .pre .2 (table-usable _ (taken c .table) .table .size
 counted : (c : tie.Else1) → let n = c .before .before .before .before .before .before in n .data-count .result ≡ start (c .before) .args .code .b * start (c .before) .args .code .k
 counted c = c .before .before .before .before .before .before .data-count .ensures
 
-cast-t26 : tie.Need-cast-t26
-cast-t26 c = omega (arith, taken c .small)
+cast-t27 : tie.Need-cast-t27
+cast-t27 c = omega (arith, taken c .small)
 
 opened-requires : tie.Need-opened-requires
 opened-requires c κs = search needs
@@ -106,6 +106,7 @@ run-requires c κs =
       length-take-le _ _ (omega (arith, counted e, room e)) ∙ counted e,
       clear-front (e .before .before .before .before .before .before .data-count .result) (start (e .before) .args .zeros .now) (start (e .before) .pre .3),
       none-clear,
+      λ z. let b = start (e .before) in bits-two (b .args .code .bits) (b .args .code .q) (taken e .high) (sym (b .pre .4) ∙ z),
     )
 
 same-length-4 : tie.Need-same-length-4
@@ -144,7 +145,7 @@ pass-with-spec =
     same-length-2
     same-length-3
     returns
-    cast-t26
+    cast-t27
     opened-requires
     slice-aggregate-run
     slice-relend-prefix-run

@@ -1,4 +1,4 @@
--- `encode`: refused, the page is as it was lent; done, it is the code word of the data.
+-- `encode_in`: refused, the page is as it was lent; done, it is the code word of the data.
 use borrow.Author.Needs.{needs}
 use mathlib.Core.Path.{_≡_, sym, _∙_, ap}
 use mathlib.Core.Bool.{_&&_}
@@ -9,15 +9,16 @@ use lib.Dec.{eqb}
 use lib.ListN.{length, drop}
 use lib.Seq.{length-take-le}
 use Rattle.model.specs.Calls.{encodeFits, encodeAnswer, encodeOutcome}
-use Rattle.model.specs.Code.{Code, codeOf, dataCount, pageLength, codeWord}
+use Rattle.model.specs.Code.{Code, codeIn, dataCount, pageLength, codeWord}
 use Rattle.theory.specs.Codes.{ByteCode}
 use Rattle.theory.specs.Outcomes.{left-as-lent, left-as-done}
 use Rattle.theory.specs.Steps.{SymbolsBelow}
+use Rattle.params.specs.Codes.{profileOf, in-bytes}
 use Rattle.params.specs.Sizes.{sizes-fit}
 use Rattle.codeword.specs.Checks.{behind-length, page-written}
 use Rattle.page.specs.Calls.{number-by, taken}
-use Rattle.page.proofs.encode.Statement.{statement}
-use Rattle.page.proofs.encode.Tie as tie
+use Rattle.page.proofs.encode_in.Statement.{statement}
+use Rattle.page.proofs.encode_in.Tie as tie
 
 -- the lengths that fit are at most those of the largest k and b
 sized : (b : tie.Start) → b .args .b * b .args .k + b .args .k ≤ 18446744073709551615
@@ -41,7 +42,7 @@ start p = p .before .before .before .before .before .before
 
 -- the call's code
 abbrev code : tie.Start → Code
-code b = codeOf (b .args .q) (b .args .k) (b .args .b) (b .args .positions .now)
+code b = codeIn (profileOf (b .args .bits)) (b .args .q) (b .args .k) (b .args .b) (b .args .positions .now)
 
 fitting : (p : tie.After-two-fit) → p .two-fit .result ≡ encodeFits (code (start p)) (length (start p .args .«data» .now)) (length (start p .args .page .now))
 fitting p =
@@ -66,7 +67,7 @@ works c =
     let p = c .before in
     let b = start (p .before) in
     taken (code b) (b .args .«data» .now) (dataCount (code b)) (length (b .args .page .now)) (pageLength (code b)) _ (fitting (p .before)) _
-    (p .page-answer .ensures) (omega arith) (c .if1 .left)
+    (p .page-answer .ensures) (in-bytes (b .args .bits)) (c .if1 .left)
 
 returns : tie.Need-returns
 unfolding encodeOutcome
@@ -126,13 +127,15 @@ returns-2 c =
     let u = b .args .«data» .now in
     let w = works left in
     let n = sym (left .if1 .left) ∙ number (left .before) in
-    let written = page-written (code b) (w .0 .table) u (copied .copy-into .last .0) (drop (length u) (b .args .page .now)) _ _ (w .1 .len) (copied .copy-into .ensures) (first .first-row .ensures .0) (added .add-branches .ensures) in (
+    let written =
+    page-written (code b) (w .0 .table) u (copied .copy-into .last .0) (drop (length u) (b .args .page .now)) _ _ (w .1 .len) (copied .copy-into .ensures)
+    (first .first-row .ensures .0) (added .add-branches .ensures) in (
       left-as-done _ _ _ _ n written,
       λ e. (sym (n ∙ ap (λ (l : ℕ). encodeAnswer (code b) u l) (w .2)), written),
     )
 
-pub encode-spec : {M : Type 1} → statement M
-encode-spec =
+pub encode-in-spec : {M : Type 1} → statement M
+encode-in-spec =
     tie.close
     (tie.spec
     data-count-requires

@@ -1,4 +1,4 @@
--- `syndrome`: refused, S is as it was lent; done, it is the syndrome of the page.
+-- `syndrome_in`: refused, S is as it was lent; done, it is the syndrome of the page.
 use borrow.Author.Needs.{needs}
 use mathlib.Core.Path.{_≡_, sym, _∙_, ap}
 use mathlib.Core.Bool.{_&&_}
@@ -7,14 +7,15 @@ use native.Mathlib.Omega.{arith}
 use lib.Dec.{eqb}
 use lib.ListN.{length}
 use Rattle.model.specs.Calls.{syndromeFits, syndromeAnswer, syndromeOutcome}
-use Rattle.model.specs.Code.{Code, codeOf, pageLength}
+use Rattle.model.specs.Code.{Code, codeIn, pageLength}
 use Rattle.theory.specs.Codes.{ByteCode}
 use Rattle.theory.specs.Outcomes.{left-as-lent, left-as-done}
 use Rattle.theory.specs.Steps.{SymbolsBelow}
+use Rattle.params.specs.Codes.{profileOf, in-bytes}
 use Rattle.params.specs.Sizes.{sizes-fit}
 use Rattle.page.specs.Calls.{number-by, taken}
-use Rattle.page.proofs.syndrome.Statement.{statement}
-use Rattle.page.proofs.syndrome.Tie as tie
+use Rattle.page.proofs.syndrome_in.Statement.{statement}
+use Rattle.page.proofs.syndrome_in.Tie as tie
 
 -- the lengths that fit are at most those of the largest k and b
 sized : (b : tie.Start) → b .args .b * b .args .k + b .args .k ≤ 18446744073709551615
@@ -38,7 +39,7 @@ start p = p .before .before .before .before .before .before
 
 -- the call's code
 abbrev code : tie.Start → Code
-code b = codeOf (b .args .q) (b .args .k) (b .args .b) (b .args .positions .now)
+code b = codeIn (profileOf (b .args .bits)) (b .args .q) (b .args .k) (b .args .b) (b .args .positions .now)
 
 fitting : (p : tie.After-two-fit) → p .two-fit .result ≡ syndromeFits (code (start p)) (length (start p .args .page .now)) (length (start p .args .s .now))
 fitting p =
@@ -63,7 +64,7 @@ works c =
     let p = c .before in
     let b = start (p .before) in
     taken (code b) (b .args .page .now) (pageLength (code b)) (length (b .args .s .now)) (b .args .k) _ (fitting (p .before)) _
-    (p .page-answer .ensures) (omega arith) (c .if1 .left)
+    (p .page-answer .ensures) (in-bytes (b .args .bits)) (c .if1 .left)
 
 returns : tie.Need-returns
 unfolding syndromeOutcome
@@ -82,8 +83,8 @@ returns-2 c =
     let left = w .before .before in
     left-as-done _ _ _ _ (sym (left .if1 .left) ∙ number (left .before)) (w .write-syndrome .ensures)
 
-pub syndrome-spec : {M : Type 1} → statement M
-syndrome-spec =
+pub syndrome-in-spec : {M : Type 1} → statement M
+syndrome-in-spec =
     tie.close
     (tie.spec
     data-count-requires

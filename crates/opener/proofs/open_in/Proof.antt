@@ -1,4 +1,4 @@
--- `open`: refused, the three buffers are as they were lent; done, they are the opened page.
+-- `open_in`: refused, the three buffers are as they were lent; done, they are the opened page.
 use borrow.Author.Needs.{needs}
 use mathlib.Core.Path.{_≡_, sym, _∙_, ap}
 use mathlib.Core.Bool.{Bool, _&&_}
@@ -7,13 +7,14 @@ use native.Mathlib.Omega.{arith}
 use lib.Dec.{eqb}
 use lib.ListN.{length}
 use Rattle.model.specs.Calls.{firstThatApplies, pageTests, openAnswer, openOutcome}
-use Rattle.model.specs.Code.{Code, codeOf}
+use Rattle.model.specs.Code.{Code, codeIn}
 use Rattle.model.specs.Decoder.{State, stateBy}
 use Rattle.theory.specs.Answers.{Opens, open-taken}
 use Rattle.theory.specs.Outcomes.{left-as-lent, left-as-done}
+use Rattle.params.specs.Codes.{profileOf}
 use Rattle.params.specs.Sizes.{sizes-fit}
-use Rattle.opener.proofs.open.Statement.{statement}
-use Rattle.opener.proofs.open.Tie as tie
+use Rattle.opener.proofs.open_in.Statement.{statement}
+use Rattle.opener.proofs.open_in.Tie as tie
 
 data-count-requires : tie.Need-data-count-requires
 data-count-requires c κs =
@@ -31,7 +32,7 @@ abbrev start : tie.After-page-answer → tie.Start
 start p = p .before .before .before .before .before .before .before .before
 
 abbrev code : tie.Start → Code
-code b = codeOf (b .args .q) (b .args .k) (b .args .b) (b .args .positions .now)
+code b = codeIn (profileOf (b .args .bits)) (b .args .q) (b .args .k) (b .args .b) (b .args .positions .now)
 
 abbrev lent : tie.Start → State
 lent b = stateBy (b .args .result .now) (b .args .syndrome .now) (b .args .difference .now)
@@ -74,8 +75,8 @@ returns-2 c =
     let done = o .before .before .before .before in
     left-as-done _ _ _ _ (sym (done .if1 .left) ∙ number (done .before)) (o .open-page .ensures .0)
 
-pub open-spec : {M : Type 1} → statement M
-open-spec =
+pub open-in-spec : {M : Type 1} → statement M
+open-in-spec =
     tie.close
     (tie.spec
     data-count-requires

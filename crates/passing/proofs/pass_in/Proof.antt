@@ -1,10 +1,11 @@
--- `pass`: whatever k and b are, the number of data symbols fits; the rest is `pass_with`'s.
+-- `pass_in`: whatever k and b are, the number of data symbols fits; the rest is `pass_with`'s.
 use borrow.Author.Needs.{needs}
+use mathlib.Core.Path.{refl}
 use native.Mathlib.Omega.{arith}
 use Rattle.params.specs.Sizes.{sizes-fit}
 use Rattle.theory.specs.Counters.{clear-made}
-use Rattle.passing.proofs.pass.Statement.{statement}
-use Rattle.passing.proofs.pass.Tie as tie
+use Rattle.passing.proofs.pass_in.Statement.{statement}
+use Rattle.passing.proofs.pass_in.Tie as tie
 
 data-count-requires : tie.Need-data-count-requires
 data-count-requires c κs =
@@ -15,7 +16,9 @@ slice-aggregate-pass-with : tie.Need-slice-aggregate-pass-with
 slice-aggregate-pass-with c = search needs
 
 pass-with-requires : tie.Need-pass-with-requires
-pass-with-requires c κs = search (needs, clear-made)
+pass-with-requires c κs =
+    let t = c .before .before .before .before in
+    (omega arith, omega arith, λ h. omega (arith, t .if1 .taken, t .before .data-count .ensures), clear-made 128, refl)
 
 same-length : tie.Need-same-length
 same-length c = search needs
@@ -33,7 +36,7 @@ slice-aggregate-pass-with-2 : tie.Need-slice-aggregate-pass-with-2
 slice-aggregate-pass-with-2 c = search needs
 
 pass-with-requires-2 : tie.Need-pass-with-requires-2
-pass-with-requires-2 c κs = (omega arith, omega arith, λ h. h, clear-made 4096)
+pass-with-requires-2 c κs = (omega arith, omega arith, λ h. h, clear-made 4096, refl)
 
 same-length-4 : tie.Need-same-length-4
 same-length-4 c = search needs
@@ -47,8 +50,8 @@ same-length-6 c = search needs
 returns-2 : tie.Need-returns-2
 returns-2 c = search needs
 
-pub pass-spec : {M : Type 1} → statement M
-pass-spec =
+pub pass-in-spec : {M : Type 1} → statement M
+pass-in-spec =
     tie.close
     (tie.spec
     data-count-requires
