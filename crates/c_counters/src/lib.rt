@@ -49,6 +49,7 @@ pub fn decode_counters(
     let n = position_bytes::read_positions(table, &mut positions);
     c_receiver::decode_into(
         fit,
+        false,
         code,
         &positions[..n],
         1,

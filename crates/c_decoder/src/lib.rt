@@ -2,13 +2,15 @@
 use params::Params;
 ghost use mathlib.Core.Path.{_≡_};
 ghost use mathlib.Core.Bool.{true};
-ghost use Rattle.model.specs.Code.{codeOf};
+ghost use Rattle.model.specs.Code.{codeIn};
 ghost use Rattle.model.specs.Decoder.{stateBy, decodedCounts};
 ghost use Rattle.model.specs.Bytes.{positionsOf, cDecodeOutcome};
 ghost use Rattle.model.specs.Demand.{DecodeFalls, DecodeRecovers};
+ghost use Rattle.params.specs.Codes.{profileOf};
 
-// Decodes a page. A small table is read into a small buffer, which costs less to clear.
+// Decodes a page, in the profile of bit pages or of bytes. A small table is read into a small buffer, which costs less to clear.
 pub fn decode(
+    bits: bool,
     q: u32,
     k: u32,
     b: u32,
@@ -28,22 +30,24 @@ pub fn decode(
         margins = now (margins .exit);
         counts = now (counts .exit);
       };
-    } ≡ cDecodeOutcome (codeOf q k b (positionsOf (now (table .entry)))) true (now (page .entry)) (now (thresholds .entry))
+    } ≡ cDecodeOutcome (codeIn (profileOf bits) q k b (positionsOf (now (table .entry)))) true (now (page .entry)) (now (thresholds .entry))
         (stateBy (now (result .entry)) (now (syndrome .entry)) (now (difference .entry))) (now (margins .entry)) (now (counts .entry)) ⌝ }
-    ensures falling { λ r. ⌜ (r ≡ 0 → DecodeFalls (codeOf q k b (positionsOf (now (table .entry)))) (now (thresholds .entry)) (now (page .entry))
-        (decodedCounts (codeOf q k b (positionsOf (now (table .entry)))) (now (thresholds .entry)) (now (page .entry)))) ⌝ }
-    ensures recovery { λ r. ⌜ (r ≡ 0 → DecodeRecovers (codeOf q k b (positionsOf (now (table .entry)))) (now (thresholds .entry)) (now (page .entry)) (now (result .exit))) ⌝ }
+    ensures falling { λ r. ⌜ (r ≡ 0 → DecodeFalls (codeIn (profileOf bits) q k b (positionsOf (now (table .entry)))) (now (thresholds .entry)) (now (page .entry))
+        (decodedCounts (codeIn (profileOf bits) q k b (positionsOf (now (table .entry)))) (now (thresholds .entry)) (now (page .entry)))) ⌝ }
+    ensures recovery { λ r. ⌜ (r ≡ 0 → DecodeRecovers (codeIn (profileOf bits) q k b (positionsOf (now (table .entry)))) (now (thresholds .entry)) (now (page .entry))
+        (now (result .exit))) ⌝ }
 {
     let code = Params {
         q,
         k: k as usize,
         b: b as usize,
-        bits: false,
+        bits,
     };
     if table.len() <= 64 {
         let mut few = [0u16; 32];
         let n = position_bytes::read_positions(table, &mut few);
         return c_sized::decode_sized(
+            bits,
             code,
             &few[..n],
             page,
@@ -58,6 +62,7 @@ pub fn decode(
     let mut positions = [0u16; 256];
     let n = position_bytes::read_positions(table, &mut positions);
     c_sized::decode_sized(
+        bits,
         code,
         &positions[..n],
         page,

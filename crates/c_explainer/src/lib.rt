@@ -2,10 +2,10 @@
 use params::Params;
 ghost use mathlib.Core.Path.{_≡_};
 ghost use Prim.Native.Nat.{_≤_};
-ghost use Rattle.model.specs.Code.{codeOf};
+ghost use Rattle.model.specs.Code.{codeIn};
 ghost use Rattle.model.specs.Decoder.{stateBy};
 ghost use Rattle.model.specs.Bytes.{positionsOf, cExplainOutcome};
-ghost use Rattle.params.specs.Codes.{codeBy};
+ghost use Rattle.params.specs.Codes.{profileOf, codeBy};
 
 // Explains a data symbol, with the positions read. The answer is written only when the call is done.
 // The code's numbers are handed on one by one, as by `c_passing::pass_into`.
@@ -55,8 +55,9 @@ fn explain_into(
     0
 }
 
-// Explains a data symbol. A small table is read into a small buffer, which costs less to clear.
+// Explains a data symbol, in the profile of bit pages or of bytes. A small table is read into a small buffer, which costs less to clear.
 pub fn explain(
+    bits: bool,
     q: u32,
     k: u32,
     b: u32,
@@ -69,14 +70,14 @@ pub fn explain(
     answer: &mut [u8],
 ) -> u32
     ensures { λ r. ⌜ record { number = r; left = now (answer .exit) }
-        ≡ cExplainOutcome (codeOf q k b (positionsOf (now (table .entry)))) threshold symbol
+        ≡ cExplainOutcome (codeIn (profileOf bits) q k b (positionsOf (now (table .entry)))) threshold symbol
         (stateBy (now (result .entry)) (now (syndrome .entry)) (now (difference .entry))) (now (answer .entry)) ⌝ }
 {
     let code = Params {
         q,
         k: k as usize,
         b: b as usize,
-        bits: false,
+        bits,
     };
     if table.len() <= 64 {
         let mut few = [0u16; 32];

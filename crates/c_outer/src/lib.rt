@@ -51,6 +51,7 @@ pub fn decode_outer(
         let n = position_bytes::read_positions(table, &mut few);
         return c_receiver::decode_into(
             true,
+            false,
             code,
             &few[..n],
             length,
@@ -70,6 +71,7 @@ pub fn decode_outer(
     let n = position_bytes::read_positions(table, &mut positions);
     c_receiver::decode_into(
         true,
+        false,
         code,
         &positions[..n],
         length,

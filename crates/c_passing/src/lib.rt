@@ -3,17 +3,19 @@ use params::Params;
 ghost use mathlib.Core.Path.{_≡_};
 ghost use Prim.Native.Nat.{_*_, _≤_};
 ghost use lib.ListN.{length};
-ghost use Rattle.model.specs.Code.{codeOf};
+ghost use Rattle.model.specs.Code.{codeIn};
 ghost use Rattle.model.specs.Decoder.{stateBy};
 ghost use Rattle.model.specs.Bytes.{positionsOf, cPassOutcome};
 ghost use Rattle.model.specs.Demand.{PassFalls};
 ghost use Rattle.theory.specs.Counters.{Clear};
-ghost use Rattle.params.specs.Codes.{codeBy};
+ghost use Rattle.params.specs.Codes.{profileOf, codeBy};
 
-// One pass, with the positions read and a buffer for the zeros. The changes are written only when the call is done.
+// One pass, with the positions read and a buffer for the zeros; `bits`, the code's, is handed down by itself. The changes are written only
+// when the call is done.
 // The code's numbers are handed on one by one: a struct copied whole would be compiled into a call of memcpy for Cortex-M0, which the
 // archive is not to need.
 fn pass_into(
+    bits: bool,
     code: Params,
     positions: &[u16],
     threshold: u32,
@@ -24,7 +26,8 @@ fn pass_into(
     changes: &mut [u8],
 ) -> u32
     requires { ⌜ (code .k ≤ 4294967295) × (code .b ≤ 4294967295) × (code .b * code .k ≤ 4096 → code .b * code .k ≤ length (now zeros))
-        × Clear (now zeros) ⌝ }
+        × Clear (now zeros)
+        × (bits ≡ code .bits) ⌝ }
     ensures { λ r. ⌜ record {
       number = r;
       left = record { state = stateBy (now (result .exit)) (now (syndrome .exit)) (now (difference .exit)); changes = now (changes .exit) };
@@ -40,6 +43,7 @@ fn pass_into(
     let others = changes.len() == 4;
     let passed = passing::pass_with(
         others,
+        bits,
         numbers,
         positions,
         threshold,
@@ -57,6 +61,7 @@ fn pass_into(
 
 // One pass, with the positions read. A small code clears a small buffer for the zeros.
 fn pass_sized(
+    bits: bool,
     code: Params,
     positions: &[u16],
     threshold: u32,
@@ -65,7 +70,7 @@ fn pass_sized(
     difference: &mut [u8],
     changes: &mut [u8],
 ) -> u32
-    requires { ⌜ (code .k ≤ 4294967295) × (code .b ≤ 4294967295) ⌝ }
+    requires { ⌜ (code .k ≤ 4294967295) × (code .b ≤ 4294967295) × (bits ≡ code .bits) ⌝ }
     ensures { λ r. ⌜ record {
       number = r;
       left = record { state = stateBy (now (result .exit)) (now (syndrome .exit)) (now (difference .exit)); changes = now (changes .exit) };
@@ -75,6 +80,7 @@ fn pass_sized(
     if params::data_count(code) <= 128 {
         let mut few = [0u8; 128];
         return pass_into(
+            bits,
             code,
             positions,
             threshold,
@@ -87,6 +93,7 @@ fn pass_sized(
     }
     let mut zeros = [0u8; 4096];
     pass_into(
+        bits,
         code,
         positions,
         threshold,
@@ -98,8 +105,9 @@ fn pass_sized(
     )
 }
 
-// One pass. A small table is read into a small buffer, which costs less to clear.
+// One pass, in the profile of bit pages or of bytes. A small table is read into a small buffer, which costs less to clear.
 pub fn pass(
+    bits: bool,
     q: u32,
     k: u32,
     b: u32,
@@ -113,21 +121,22 @@ pub fn pass(
     ensures outcome { λ r. ⌜ record {
       number = r;
       left = record { state = stateBy (now (result .exit)) (now (syndrome .exit)) (now (difference .exit)); changes = now (changes .exit) };
-    } ≡ cPassOutcome (codeOf q k b (positionsOf (now (table .entry)))) threshold
+    } ≡ cPassOutcome (codeIn (profileOf bits) q k b (positionsOf (now (table .entry)))) threshold
         (stateBy (now (result .entry)) (now (syndrome .entry)) (now (difference .entry))) (now (changes .entry)) ⌝ }
-    ensures falling { λ r. ⌜ (r ≡ 0 → PassFalls (codeOf q k b (positionsOf (now (table .entry)))) threshold
+    ensures falling { λ r. ⌜ (r ≡ 0 → PassFalls (codeIn (profileOf bits) q k b (positionsOf (now (table .entry)))) threshold
         (stateBy (now (result .entry)) (now (syndrome .entry)) (now (difference .entry)))) ⌝ }
 {
     let code = Params {
         q,
         k: k as usize,
         b: b as usize,
-        bits: false,
+        bits,
     };
     if table.len() <= 64 {
         let mut few = [0u16; 32];
         let n = position_bytes::read_positions(table, &mut few);
         return pass_sized(
+            bits,
             code,
             &few[..n],
             threshold,
@@ -140,6 +149,7 @@ pub fn pass(
     let mut positions = [0u16; 256];
     let n = position_bytes::read_positions(table, &mut positions);
     pass_sized(
+        bits,
         code,
         &positions[..n],
         threshold,

@@ -10,9 +10,10 @@ ghost use Rattle.theory.specs.Counters.{Clear};
 ghost use Rattle.theory.specs.InBlocks.{cDecodeForm};
 
 // Decodes a received page in blocks, with the positions read, a buffer for the zeros, and the counters that are lent, or none; `others`
-// says whether these fit. Blocks of 1 are those of decode. Margins and counts are written only when the call is done.
+// says whether these fit. Blocks of 1 are those of decode; `bits`, the code's, is handed down by itself. Margins and counts are written only when the call is done.
 pub fn decode_into(
     others: bool,
+    bits: bool,
     code: Params,
     positions: &[u16],
     block: usize,
@@ -28,7 +29,8 @@ pub fn decode_into(
 ) -> u32
     requires { ⌜ (code .k ≤ 4294967295) × (code .b ≤ 4294967295) × (code .b * code .k ≤ 4096 → code .b * code .k ≤ length (now zeros))
         × Clear (now zeros)
-        × (others ≡ true → Clear (now counters)) ⌝ }
+        × (others ≡ true → Clear (now counters))
+        × (bits ≡ code .bits) ⌝ }
     ensures outcome { λ r. ⌜ record {
       number = r;
       left = record {
@@ -44,6 +46,7 @@ pub fn decode_into(
     let bytes = lengths::bytes_fit(margins.len(), n, counts.len());
     let decoded = receiver::decode_with(
         lengths::also(others, bytes),
+        bits,
         n,
         code,
         positions,

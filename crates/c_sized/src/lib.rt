@@ -7,8 +7,10 @@ ghost use Rattle.model.specs.Decoder.{stateBy};
 ghost use Rattle.params.specs.Codes.{codeBy};
 ghost use Rattle.theory.specs.InBlocks.{cDecodeForm};
 
-// Decodes a page, in blocks of 1, with the positions read. A small code has a small buffer for the zeros, which costs less to clear.
+// Decodes a page, in blocks of 1, with the positions read. A small code has a small buffer for the zeros, which costs less to clear;
+// `bits`, the code's, is handed down by itself.
 pub fn decode_sized(
+    bits: bool,
     code: Params,
     positions: &[u16],
     page: &[u8],
@@ -19,7 +21,7 @@ pub fn decode_sized(
     margins: &mut [u8],
     counts: &mut [u8],
 ) -> u32
-    requires { ⌜ (code .k ≤ 4294967295) × (code .b ≤ 4294967295) ⌝ }
+    requires { ⌜ (code .k ≤ 4294967295) × (code .b ≤ 4294967295) × (bits ≡ code .bits) ⌝ }
     ensures outcome { λ r. ⌜ record {
       number = r;
       left = record {
@@ -35,6 +37,7 @@ pub fn decode_sized(
         let mut few = [0u8; 128];
         return c_receiver::decode_into(
             true,
+            bits,
             code,
             positions,
             1,
@@ -52,6 +55,7 @@ pub fn decode_sized(
     let mut zeros = [0u8; 4096];
     c_receiver::decode_into(
         true,
+        bits,
         code,
         positions,
         1,

@@ -20,7 +20,7 @@ pub extern "C" fn qmtd_version() -> u32
 pub extern "C" fn qmtd_check_table(q: u32, k: u32, b: u32, table: &[u8]) -> u32
     ensures { λ r. ⌜ r ≡ tableAnswer (codeOf q k b (positionsOf (now (table .entry)))) ⌝ }
 {
-    c_page::check_table(q, k, b, table)
+    c_page::check_table(false, q, k, b, table)
 }
 
 // Encodes data into a page.
@@ -37,7 +37,7 @@ pub extern "C" fn qmtd_encode(
         ≡ encodeOutcome (codeOf q k b (positionsOf (now (table .entry)))) (now («data» .entry)) (now (page .entry)) ⌝ }
     ensures word { λ r. ⌜ (r ≡ 0 → Encodes (codeOf q k b (positionsOf (now (table .entry)))) (now («data» .entry)) (now (page .exit))) ⌝ }
 {
-    c_page::encode(q, k, b, table, data, page)
+    c_page::encode(false, q, k, b, table, data, page)
 }
 
 // Works out the syndrome of a page.
@@ -53,7 +53,7 @@ pub extern "C" fn qmtd_syndrome(
     ensures { λ r. ⌜ record { number = r; left = now (syndrome .exit) }
         ≡ syndromeOutcome (codeOf q k b (positionsOf (now (table .entry)))) (now (page .entry)) (now (syndrome .entry)) ⌝ }
 {
-    c_page::syndrome(q, k, b, table, page, syndrome)
+    c_page::syndrome(false, q, k, b, table, page, syndrome)
 }
 
 // Decodes a page.
@@ -85,6 +85,7 @@ pub extern "C" fn qmtd_decode(
     ensures recovery { λ r. ⌜ (r ≡ 0 → DecodeRecovers (codeOf q k b (positionsOf (now (table .entry)))) (now (thresholds .entry)) (now (page .entry)) (now (result .exit))) ⌝ }
 {
     c_decoder::decode(
+        false,
         q,
         k,
         b,
@@ -115,7 +116,7 @@ pub extern "C" fn qmtd_open(
         ≡ openOutcome (codeOf q k b (positionsOf (now (table .entry)))) (now (page .entry))
         (stateBy (now (result .entry)) (now (syndrome .entry)) (now (difference .entry))) ⌝ }
 {
-    c_page::open(q, k, b, table, page, result, syndrome, difference)
+    c_page::open(false, q, k, b, table, page, result, syndrome, difference)
 }
 
 // Makes one pass.
@@ -140,6 +141,7 @@ pub extern "C" fn qmtd_pass(
         (stateBy (now (result .entry)) (now (syndrome .entry)) (now (difference .entry)))) ⌝ }
 {
     c_passing::pass(
+        false,
         q,
         k,
         b,
@@ -171,6 +173,7 @@ pub extern "C" fn qmtd_explain(
         (stateBy (now (result .entry)) (now (syndrome .entry)) (now (difference .entry))) (now (answer .entry)) ⌝ }
 {
     c_explainer::explain(
+        false,
         q,
         k,
         b,

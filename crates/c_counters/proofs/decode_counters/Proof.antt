@@ -1,6 +1,6 @@
 -- `decode_counters`: counters that fit are clear; what holds of decode with the positions that are read holds with those of the table.
 use borrow.Author.Needs.{needs}
-use mathlib.Core.Path.{sym, _∙_, ap}
+use mathlib.Core.Path.{refl, sym, _∙_, ap}
 use mathlib.Core.Bool.{Bool}
 use native.Mathlib.Omega.{arith}
 use lib.Seq.{length-take-le}
@@ -32,7 +32,7 @@ slice-aggregate-decode-into-2 : tie.Need-slice-aggregate-decode-into-2
 slice-aggregate-decode-into-2 c = search needs
 
 decode-into-requires : tie.Need-decode-into-requires
-decode-into-requires c κs = (omega arith, omega arith, λ h. h, clear-made 4096, λ e. fit-clear _ (sym (c .before .before .before .before .before .before .before .before .before .before .before .counters-fit .ensures) ∙ e))
+decode-into-requires c κs = (omega arith, omega arith, λ h. h, clear-made 4096, λ e. fit-clear _ (sym (c .before .before .before .before .before .before .before .before .before .before .before .counters-fit .ensures) ∙ e), refl)
 
 same-length : tie.Need-same-length
 same-length c = search needs

@@ -8,9 +8,10 @@ use native.Mathlib.Omega.{arith}
 use lib.Seq.{length-take-le}
 use Rattle.model.specs.Bytes.{positionsOf, cDecodeOutcome}
 use Rattle.model.specs.Calls.{Decoded}
-use Rattle.model.specs.Code.{bytePages, codeOf}
+use Rattle.model.specs.Code.{codeIn}
 use Rattle.model.specs.Decoder.{stateBy, decodedCounts}
 use Rattle.model.specs.Demand.{DecodeFalls, DecodeRecovers}
+use Rattle.params.specs.Codes.{profileOf}
 use Rattle.position_bytes.specs.Positions.{kept}
 use Rattle.position_bytes.specs.Reads.{decode-read}
 use Rattle.theory.specs.InBlocks.{cDecodeForm, c-decode-done}
@@ -25,7 +26,7 @@ start c = c .before .before .before .before .before .before .before .before
 abbrev Holds : tie.Start → ℕ → Decoded (List ℕ) (List ℕ) → Type 0
 Holds s r x =
     let a = s .args in
-    let c = codeOf (a .q) (a .k) (a .b) (positionsOf (a .table .now)) in
+    let c = codeIn (profileOf (a .bits)) (a .q) (a .k) (a .b) (positionsOf (a .table .now)) in
     let lent = stateBy (a .result .now) (a .syndrome .now) (a .difference .now) in
     (record { number = r; left = x } ≡ cDecodeOutcome c true (a .page .now) (a .thresholds .now) lent (a .margins .now) (a .counts .now))
     × ((r ≡ 0 → DecodeFalls c (a .thresholds .now) (a .page .now) (decodedCounts c (a .thresholds .now) (a .page .now)))
@@ -35,14 +36,15 @@ Holds s r x =
 whole : (s : tie.Start) (xs : List ℕ) → xs ≡ kept (positionsOf (s .args .table .now)) → (r : ℕ) (x : Decoded (List ℕ) (List ℕ))
     → (let a = s .args in
     record { number = r; left = x }
-    ≡ cDecodeForm (codeOf (a .q) (a .k) (a .b) xs) 1 true (a .page .now) (a .thresholds .now) (stateBy (a .result .now) (a .syndrome .now) (a .difference .now)) (a .margins .now) (a .counts .now))
+    ≡ cDecodeForm (codeIn (profileOf (a .bits)) (a .q) (a .k) (a .b) xs) 1 true (a .page .now) (a .thresholds .now)
+    (stateBy (a .result .now) (a .syndrome .now) (a .difference .now)) (a .margins .now) (a .counts .now))
     → Holds s r x
 whole s xs e r x h =
     let a = s .args in
     let ps = positionsOf (a .table .now) in
     let lent = stateBy (a .result .now) (a .syndrome .now) (a .difference .now) in
-    c-decode-done (codeOf (a .q) (a .k) (a .b) ps) true (a .page .now) (a .thresholds .now) lent (a .margins .now) (a .counts .now) r x
-    (h ∙ decode-read bytePages (a .q) (a .k) (a .b) xs ps e 1 true (a .page .now) (a .thresholds .now) lent (a .margins .now) (a .counts .now))
+    c-decode-done (codeIn (profileOf (a .bits)) (a .q) (a .k) (a .b) ps) true (a .page .now) (a .thresholds .now) lent (a .margins .now) (a .counts .now) r x
+    (h ∙ decode-read (profileOf (a .bits)) (a .q) (a .k) (a .b) xs ps e 1 true (a .page .now) (a .thresholds .now) lent (a .margins .now) (a .counts .now))
 
 slice-aggregate-read-positions : tie.Need-slice-aggregate-read-positions
 slice-aggregate-read-positions c = search needs

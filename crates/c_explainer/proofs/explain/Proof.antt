@@ -7,8 +7,9 @@ use native.Mathlib.Omega.{arith}
 use lib.Seq.{length-take-le}
 use Rattle.model.specs.Bytes.{positionsOf, cExplainOutcome}
 use Rattle.model.specs.Calls.{Outcome}
-use Rattle.model.specs.Code.{bytePages, codeOf}
+use Rattle.model.specs.Code.{codeIn}
 use Rattle.model.specs.Decoder.{stateBy}
+use Rattle.params.specs.Codes.{profileOf}
 use Rattle.position_bytes.specs.Positions.{kept}
 use Rattle.position_bytes.specs.Reads.{explain-read}
 use Rattle.c_explainer.proofs.explain.Statement.{statement}
@@ -18,13 +19,14 @@ use Rattle.c_explainer.proofs.explain.Tie as tie
 abbrev Holds : tie.Start → List ℕ → Outcome (List ℕ) → Type 0
 Holds s ps o =
     let a = s .args in
-    o ≡ cExplainOutcome (codeOf (a .q) (a .k) (a .b) ps) (a .threshold) (a .symbol) (stateBy (a .result .now) (a .syndrome .now) (a .difference .now)) (a .answer .now)
+    o ≡ cExplainOutcome (codeIn (profileOf (a .bits)) (a .q) (a .k) (a .b) ps) (a .threshold) (a .symbol)
+    (stateBy (a .result .now) (a .syndrome .now) (a .difference .now)) (a .answer .now)
 
 -- what holds with the positions that are read, xs, holds with those of the table
 whole : (s : tie.Start) (xs : List ℕ) → xs ≡ kept (positionsOf (s .args .table .now)) → (o : Outcome (List ℕ)) → Holds s xs o → Holds s (positionsOf (s .args .table .now)) o
 whole s xs e o h =
     let a = s .args in
-    h ∙ explain-read bytePages (a .q) (a .k) (a .b) xs (positionsOf (a .table .now)) e (a .threshold) (a .symbol)
+    h ∙ explain-read (profileOf (a .bits)) (a .q) (a .k) (a .b) xs (positionsOf (a .table .now)) e (a .threshold) (a .symbol)
     (stateBy (a .result .now) (a .syndrome .now) (a .difference .now)) (a .answer .now)
 
 slice-aggregate-read-positions : tie.Need-slice-aggregate-read-positions

@@ -1,6 +1,6 @@
 -- `decode_outer`: what holds of decode in blocks with the positions that are read holds with those of the table, in either buffer.
 use borrow.Author.Needs.{needs}
-use mathlib.Core.Path.{_≡_, sym, _∙_, ap}
+use mathlib.Core.Path.{_≡_, refl, sym, _∙_, ap}
 use mathlib.Core.Bool.{true}
 use mathlib.Core.List.{List}
 use Prim.Native.Nat.{ℕ, _*_, _≤_}
@@ -88,7 +88,7 @@ slice-aggregate-decode-into-3 c = search needs
 decode-into-requires : tie.Need-decode-into-requires
 decode-into-requires c κs =
     let t = c .before .before .before .before .before .before .before .before .before .before .before in
-    (omega arith, omega arith, (λ _. omega (arith, small t .1)), clear-made 128, (λ _. none-clear))
+    (omega arith, omega arith, (λ _. omega (arith, small t .1)), clear-made 128, (λ _. none-clear), refl)
 
 same-length : tie.Need-same-length
 same-length c = search needs
@@ -131,7 +131,7 @@ slice-aggregate-decode-into-6 : tie.Need-slice-aggregate-decode-into-6
 slice-aggregate-decode-into-6 c = search needs
 
 decode-into-requires-2 : tie.Need-decode-into-requires-2
-decode-into-requires-2 c κs = (omega arith, omega arith, (λ h. h), clear-made 4096, (λ _. none-clear))
+decode-into-requires-2 c κs = (omega arith, omega arith, (λ h. h), clear-made 4096, (λ _. none-clear), refl)
 
 same-length-6 : tie.Need-same-length-6
 same-length-6 c = search needs

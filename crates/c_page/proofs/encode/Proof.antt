@@ -6,8 +6,9 @@ use native.Mathlib.Omega.{arith}
 use lib.Seq.{length-take-le}
 use Rattle.model.specs.Bytes.{positionsOf}
 use Rattle.model.specs.Calls.{encodeOutcome}
-use Rattle.model.specs.Code.{bytePages, codeOf}
+use Rattle.model.specs.Code.{codeIn}
 use Rattle.model.specs.Demand.{Encodes}
+use Rattle.params.specs.Codes.{profileOf}
 use Rattle.position_bytes.specs.Positions.{kept}
 use Rattle.position_bytes.specs.Reads.{encode-read, encodes-read}
 use borrow.Author.Needs.{needs}
@@ -18,7 +19,7 @@ use Rattle.c_page.proofs.encode.Tie as tie
 abbrev Holds : tie.Start → List ℕ → ℕ → List ℕ → Type 0
 Holds s ps r x =
     let a = s .args in
-    let c = codeOf (a .q) (a .k) (a .b) ps in
+    let c = codeIn (profileOf (a .bits)) (a .q) (a .k) (a .b) ps in
     (record { number = r; left = x } ≡ encodeOutcome c (a .«data» .now) (a .page .now)) × (r ≡ 0 → Encodes c (a .«data» .now) x)
 
 -- what holds with the positions that are read, xs, holds with those of the table
@@ -26,8 +27,8 @@ whole : (s : tie.Start) (xs : List ℕ) → xs ≡ kept (positionsOf (s .args .t
 whole s xs e r x h =
     let a = s .args in
     let ps = positionsOf (a .table .now) in (
-      h .0 ∙ encode-read bytePages (a .q) (a .k) (a .b) xs ps e (a .«data» .now) (a .page .now),
-      λ z. encodes-read bytePages (a .q) (a .k) (a .b) xs ps e (a .«data» .now) x (h .1 z),
+      h .0 ∙ encode-read (profileOf (a .bits)) (a .q) (a .k) (a .b) xs ps e (a .«data» .now) (a .page .now),
+      λ z. encodes-read (profileOf (a .bits)) (a .q) (a .k) (a .b) xs ps e (a .«data» .now) x (h .1 z),
     )
 
 slice-aggregate-read-positions : tie.Need-slice-aggregate-read-positions
@@ -39,11 +40,11 @@ read-positions-requires c κs = search needs
 array-share-prefix-few : tie.Need-array-share-prefix-few
 array-share-prefix-few c = search needs
 
-slice-aggregate-encode : tie.Need-slice-aggregate-encode
-slice-aggregate-encode c = sym (length-take-le _ _ (omega arith))
+slice-aggregate-encode-in : tie.Need-slice-aggregate-encode-in
+slice-aggregate-encode-in c = sym (length-take-le _ _ (omega arith))
 
-encode-requires : tie.Need-encode-requires
-encode-requires c κs = search needs
+encode-in-requires : tie.Need-encode-in-requires
+encode-in-requires c κs = search needs
 
 same-length : tie.Need-same-length
 same-length c = search needs
@@ -52,7 +53,7 @@ returns : tie.Need-returns
 returns c =
     let p = c .before .before in
     let r = p .before .before .before .before in
-    whole (r .before .before .before .before .before .before) _ (r .read-positions .ensures .1) _ _ (p .encode .ensures)
+    whole (r .before .before .before .before .before .before) _ (r .read-positions .ensures .1) _ _ (p .encode-in .ensures)
 
 slice-aggregate-read-positions-2 : tie.Need-slice-aggregate-read-positions-2
 slice-aggregate-read-positions-2 c = search needs
@@ -63,11 +64,11 @@ read-positions-requires-2 c κs = search needs
 array-share-prefix-positions : tie.Need-array-share-prefix-positions
 array-share-prefix-positions c = search needs
 
-slice-aggregate-encode-2 : tie.Need-slice-aggregate-encode-2
-slice-aggregate-encode-2 c = sym (length-take-le _ _ (omega arith))
+slice-aggregate-encode-in-2 : tie.Need-slice-aggregate-encode-in-2
+slice-aggregate-encode-in-2 c = sym (length-take-le _ _ (omega arith))
 
-encode-requires-2 : tie.Need-encode-requires-2
-encode-requires-2 c κs = search needs
+encode-in-requires-2 : tie.Need-encode-in-requires-2
+encode-in-requires-2 c κs = search needs
 
 same-length-2 : tie.Need-same-length-2
 same-length-2 c = search needs
@@ -76,7 +77,7 @@ returns-2 : tie.Need-returns-2
 returns-2 c =
     let p = c .before .before in
     let r = p .before .before .before .before in
-    whole (r .before .before .before .before .before .before) _ (r .read-positions2 .ensures .1) _ _ (p .encode2 .ensures)
+    whole (r .before .before .before .before .before .before) _ (r .read-positions2 .ensures .1) _ _ (p .encode-in2 .ensures)
 
 pub encode-spec : {M : Type 1} → statement M
 encode-spec =
@@ -85,14 +86,14 @@ encode-spec =
     slice-aggregate-read-positions
     read-positions-requires
     array-share-prefix-few
-    slice-aggregate-encode
-    encode-requires
+    slice-aggregate-encode-in
+    encode-in-requires
     same-length
     returns
     slice-aggregate-read-positions-2
     read-positions-requires-2
     array-share-prefix-positions
-    slice-aggregate-encode-2
-    encode-requires-2
+    slice-aggregate-encode-in-2
+    encode-in-requires-2
     same-length-2
     returns-2)

@@ -6,8 +6,9 @@ use native.Mathlib.Omega.{arith}
 use lib.Seq.{length-take-le}
 use Rattle.model.specs.Bytes.{positionsOf}
 use Rattle.model.specs.Calls.{Outcome, openOutcome}
-use Rattle.model.specs.Code.{bytePages, codeOf}
+use Rattle.model.specs.Code.{codeIn}
 use Rattle.model.specs.Decoder.{State, stateBy}
+use Rattle.params.specs.Codes.{profileOf}
 use Rattle.position_bytes.specs.Positions.{kept}
 use Rattle.position_bytes.specs.Reads.{open-read}
 use borrow.Author.Needs.{needs}
@@ -18,13 +19,13 @@ use Rattle.c_page.proofs.open.Tie as tie
 abbrev Holds : tie.Start → List ℕ → Outcome State → Type 0
 Holds s ps o =
     let a = s .args in
-    o ≡ openOutcome (codeOf (a .q) (a .k) (a .b) ps) (a .page .now) (stateBy (a .result .now) (a .syndrome .now) (a .difference .now))
+    o ≡ openOutcome (codeIn (profileOf (a .bits)) (a .q) (a .k) (a .b) ps) (a .page .now) (stateBy (a .result .now) (a .syndrome .now) (a .difference .now))
 
 -- what holds with the positions that are read, xs, holds with those of the table
 whole : (s : tie.Start) (xs : List ℕ) → xs ≡ kept (positionsOf (s .args .table .now)) → (o : Outcome State) → Holds s xs o → Holds s (positionsOf (s .args .table .now)) o
 whole s xs e o h =
     let a = s .args in
-    h ∙ open-read bytePages (a .q) (a .k) (a .b) xs (positionsOf (a .table .now)) e (a .page .now) (stateBy (a .result .now) (a .syndrome .now) (a .difference .now))
+    h ∙ open-read (profileOf (a .bits)) (a .q) (a .k) (a .b) xs (positionsOf (a .table .now)) e (a .page .now) (stateBy (a .result .now) (a .syndrome .now) (a .difference .now))
 
 slice-aggregate-read-positions : tie.Need-slice-aggregate-read-positions
 slice-aggregate-read-positions c = search needs
@@ -35,11 +36,11 @@ read-positions-requires c κs = search needs
 array-share-prefix-few : tie.Need-array-share-prefix-few
 array-share-prefix-few c = search needs
 
-slice-aggregate-open : tie.Need-slice-aggregate-open
-slice-aggregate-open c = sym (length-take-le _ _ (omega arith))
+slice-aggregate-open-in : tie.Need-slice-aggregate-open-in
+slice-aggregate-open-in c = sym (length-take-le _ _ (omega arith))
 
-open-requires : tie.Need-open-requires
-open-requires c κs = search needs
+open-in-requires : tie.Need-open-in-requires
+open-in-requires c κs = search needs
 
 same-length : tie.Need-same-length
 same-length c = search needs
@@ -54,7 +55,7 @@ returns : tie.Need-returns
 returns c =
     let p = c .before .before .before .before .before .before in
     let r = p .before .before .before .before .before .before in
-    whole (r .before .before .before .before .before .before .before .before) _ (r .read-positions .ensures .1) _ (p .open .ensures)
+    whole (r .before .before .before .before .before .before .before .before) _ (r .read-positions .ensures .1) _ (p .open-in .ensures)
 
 slice-aggregate-read-positions-2 : tie.Need-slice-aggregate-read-positions-2
 slice-aggregate-read-positions-2 c = search needs
@@ -65,11 +66,11 @@ read-positions-requires-2 c κs = search needs
 array-share-prefix-positions : tie.Need-array-share-prefix-positions
 array-share-prefix-positions c = search needs
 
-slice-aggregate-open-2 : tie.Need-slice-aggregate-open-2
-slice-aggregate-open-2 c = sym (length-take-le _ _ (omega arith))
+slice-aggregate-open-in-2 : tie.Need-slice-aggregate-open-in-2
+slice-aggregate-open-in-2 c = sym (length-take-le _ _ (omega arith))
 
-open-requires-2 : tie.Need-open-requires-2
-open-requires-2 c κs = search needs
+open-in-requires-2 : tie.Need-open-in-requires-2
+open-in-requires-2 c κs = search needs
 
 same-length-4 : tie.Need-same-length-4
 same-length-4 c = search needs
@@ -84,7 +85,7 @@ returns-2 : tie.Need-returns-2
 returns-2 c =
     let p = c .before .before .before .before .before .before in
     let r = p .before .before .before .before .before .before in
-    whole (r .before .before .before .before .before .before .before .before) _ (r .read-positions2 .ensures .1) _ (p .open2 .ensures)
+    whole (r .before .before .before .before .before .before .before .before) _ (r .read-positions2 .ensures .1) _ (p .open-in2 .ensures)
 
 pub open-spec : {M : Type 1} → statement M
 open-spec =
@@ -93,8 +94,8 @@ open-spec =
     slice-aggregate-read-positions
     read-positions-requires
     array-share-prefix-few
-    slice-aggregate-open
-    open-requires
+    slice-aggregate-open-in
+    open-in-requires
     same-length
     same-length-2
     same-length-3
@@ -102,8 +103,8 @@ open-spec =
     slice-aggregate-read-positions-2
     read-positions-requires-2
     array-share-prefix-positions
-    slice-aggregate-open-2
-    open-requires-2
+    slice-aggregate-open-in-2
+    open-in-requires-2
     same-length-4
     same-length-5
     same-length-6

@@ -6,7 +6,8 @@ use native.Mathlib.Omega.{arith}
 use lib.Seq.{length-take-le}
 use Rattle.model.specs.Bytes.{positionsOf}
 use Rattle.model.specs.Calls.{Outcome, syndromeOutcome}
-use Rattle.model.specs.Code.{bytePages, codeOf}
+use Rattle.model.specs.Code.{codeIn}
+use Rattle.params.specs.Codes.{profileOf}
 use Rattle.position_bytes.specs.Positions.{kept}
 use Rattle.position_bytes.specs.Reads.{syndrome-read}
 use borrow.Author.Needs.{needs}
@@ -15,11 +16,11 @@ use Rattle.c_page.proofs.syndrome.Tie as tie
 
 -- what the contract says of the outcome o, with positions ps
 abbrev Holds : tie.Start → List ℕ → Outcome (List ℕ) → Type 0
-Holds s ps o = o ≡ syndromeOutcome (codeOf (s .args .q) (s .args .k) (s .args .b) ps) (s .args .page .now) (s .args .syndrome .now)
+Holds s ps o = o ≡ syndromeOutcome (codeIn (profileOf (s .args .bits)) (s .args .q) (s .args .k) (s .args .b) ps) (s .args .page .now) (s .args .syndrome .now)
 
 -- what holds with the positions that are read, xs, holds with those of the table
 whole : (s : tie.Start) (xs : List ℕ) → xs ≡ kept (positionsOf (s .args .table .now)) → (o : Outcome (List ℕ)) → Holds s xs o → Holds s (positionsOf (s .args .table .now)) o
-whole s xs e o h = let a = s .args in h ∙ syndrome-read bytePages (a .q) (a .k) (a .b) xs (positionsOf (a .table .now)) e (a .page .now) (a .syndrome .now)
+whole s xs e o h = let a = s .args in h ∙ syndrome-read (profileOf (a .bits)) (a .q) (a .k) (a .b) xs (positionsOf (a .table .now)) e (a .page .now) (a .syndrome .now)
 
 slice-aggregate-read-positions : tie.Need-slice-aggregate-read-positions
 slice-aggregate-read-positions c = search needs
@@ -30,11 +31,11 @@ read-positions-requires c κs = search needs
 array-share-prefix-few : tie.Need-array-share-prefix-few
 array-share-prefix-few c = search needs
 
-slice-aggregate-syndrome : tie.Need-slice-aggregate-syndrome
-slice-aggregate-syndrome c = sym (length-take-le _ _ (omega arith))
+slice-aggregate-syndrome-in : tie.Need-slice-aggregate-syndrome-in
+slice-aggregate-syndrome-in c = sym (length-take-le _ _ (omega arith))
 
-syndrome-requires : tie.Need-syndrome-requires
-syndrome-requires c κs = search needs
+syndrome-in-requires : tie.Need-syndrome-in-requires
+syndrome-in-requires c κs = search needs
 
 same-length : tie.Need-same-length
 same-length c = search needs
@@ -43,7 +44,7 @@ returns : tie.Need-returns
 returns c =
     let p = c .before .before in
     let r = p .before .before .before .before in
-    whole (r .before .before .before .before .before .before) _ (r .read-positions .ensures .1) _ (p .syndrome .ensures)
+    whole (r .before .before .before .before .before .before) _ (r .read-positions .ensures .1) _ (p .syndrome-in .ensures)
 
 slice-aggregate-read-positions-2 : tie.Need-slice-aggregate-read-positions-2
 slice-aggregate-read-positions-2 c = search needs
@@ -54,11 +55,11 @@ read-positions-requires-2 c κs = search needs
 array-share-prefix-positions : tie.Need-array-share-prefix-positions
 array-share-prefix-positions c = search needs
 
-slice-aggregate-syndrome-2 : tie.Need-slice-aggregate-syndrome-2
-slice-aggregate-syndrome-2 c = sym (length-take-le _ _ (omega arith))
+slice-aggregate-syndrome-in-2 : tie.Need-slice-aggregate-syndrome-in-2
+slice-aggregate-syndrome-in-2 c = sym (length-take-le _ _ (omega arith))
 
-syndrome-requires-2 : tie.Need-syndrome-requires-2
-syndrome-requires-2 c κs = search needs
+syndrome-in-requires-2 : tie.Need-syndrome-in-requires-2
+syndrome-in-requires-2 c κs = search needs
 
 same-length-2 : tie.Need-same-length-2
 same-length-2 c = search needs
@@ -67,7 +68,7 @@ returns-2 : tie.Need-returns-2
 returns-2 c =
     let p = c .before .before in
     let r = p .before .before .before .before in
-    whole (r .before .before .before .before .before .before) _ (r .read-positions2 .ensures .1) _ (p .syndrome3 .ensures)
+    whole (r .before .before .before .before .before .before) _ (r .read-positions2 .ensures .1) _ (p .syndrome-in2 .ensures)
 
 pub syndrome-spec : {M : Type 1} → statement M
 syndrome-spec =
@@ -76,14 +77,14 @@ syndrome-spec =
     slice-aggregate-read-positions
     read-positions-requires
     array-share-prefix-few
-    slice-aggregate-syndrome
-    syndrome-requires
+    slice-aggregate-syndrome-in
+    syndrome-in-requires
     same-length
     returns
     slice-aggregate-read-positions-2
     read-positions-requires-2
     array-share-prefix-positions
-    slice-aggregate-syndrome-2
-    syndrome-requires-2
+    slice-aggregate-syndrome-in-2
+    syndrome-in-requires-2
     same-length-2
     returns-2)

@@ -7,9 +7,10 @@ use native.Mathlib.Omega.{arith}
 use lib.Seq.{length-take-le}
 use Rattle.model.specs.Bytes.{positionsOf, cPassOutcome}
 use Rattle.model.specs.Calls.{Passed}
-use Rattle.model.specs.Code.{bytePages, codeOf}
+use Rattle.model.specs.Code.{codeIn}
 use Rattle.model.specs.Decoder.{State, stateBy}
 use Rattle.model.specs.Demand.{PassFalls}
+use Rattle.params.specs.Codes.{profileOf}
 use Rattle.position_bytes.specs.Positions.{kept}
 use Rattle.position_bytes.specs.Reads.{pass-whole}
 use Rattle.c_passing.proofs.pass.Statement.{statement}
@@ -24,12 +25,13 @@ lent s = stateBy (s .args .result .now) (s .args .syndrome .now) (s .args .diffe
 
 -- what holds with the positions that are read, xs, holds with those of the table
 whole : (s : tie.Start) (xs : List ℕ) → xs ≡ kept (positionsOf (s .args .table .now)) → (r : ℕ) (x : Passed (List ℕ))
-    → record { number = r; left = x } ≡ cPassOutcome (codeOf (s .args .q) (s .args .k) (s .args .b) xs) (s .args .threshold) (lent s) (s .args .changes .now)
-    → let c = codeOf (s .args .q) (s .args .k) (s .args .b) (positionsOf (s .args .table .now)) in
+    → record { number = r; left = x }
+    ≡ cPassOutcome (codeIn (profileOf (s .args .bits)) (s .args .q) (s .args .k) (s .args .b) xs) (s .args .threshold) (lent s) (s .args .changes .now)
+    → let c = codeIn (profileOf (s .args .bits)) (s .args .q) (s .args .k) (s .args .b) (positionsOf (s .args .table .now)) in
     (record { number = r; left = x } ≡ cPassOutcome c (s .args .threshold) (lent s) (s .args .changes .now)) × (r ≡ 0 → PassFalls c (s .args .threshold) (lent s))
 whole s xs e r x h =
     let a = s .args in
-    pass-whole bytePages (a .q) (a .k) (a .b) xs (positionsOf (a .table .now)) e (a .threshold) (lent s) (a .changes .now) r x h
+    pass-whole (profileOf (a .bits)) (a .q) (a .k) (a .b) xs (positionsOf (a .table .now)) e (a .threshold) (lent s) (a .changes .now) r x h
 
 slice-aggregate-read-positions : tie.Need-slice-aggregate-read-positions
 slice-aggregate-read-positions c = search needs

@@ -18,7 +18,7 @@ pass-into-requires : tie.Need-pass-into-requires
 pass-into-requires c κs =
     let t = c .before .before .before .before .before in
     let p = t .before .before .before .before .before .before .before .pre in
-    (p .0, p .1, λ h. omega (arith, t .if1 .taken, t .before .data-count .ensures), clear-made 128)
+    (p .0, p .1, λ h. omega (arith, t .if1 .taken, t .before .data-count .ensures), clear-made 128, p .2)
 
 same-length : tie.Need-same-length
 same-length c = search needs
@@ -39,7 +39,7 @@ slice-aggregate-pass-into-2 : tie.Need-slice-aggregate-pass-into-2
 slice-aggregate-pass-into-2 c = search needs
 
 pass-into-requires-2 : tie.Need-pass-into-requires-2
-pass-into-requires-2 c κs = let p = c .before .before .before .before .before .before .before .before .before .before .before .before .pre in (p .0, p .1, λ h. h, clear-made 4096)
+pass-into-requires-2 c κs = let p = c .before .before .before .before .before .before .before .before .before .before .before .before .pre in (p .0, p .1, λ h. h, clear-made 4096, p .2)
 
 same-length-5 : tie.Need-same-length-5
 same-length-5 c = search needs

@@ -35,7 +35,7 @@ decode-with-requires c κs =
     let t = c .before .before .before .before .before in
     let p = t .before .before .before .before .before .before .before .before .before .before .before .before .before .pre in
     let n = t .before .before .data-count .ensures in
-    (n, λ h. omega (arith, n, p .2 (omega (arith, n, h))), p .3, λ e. p .4 (and-true _ _ (sym (t .also .ensures) ∙ e) .0))
+    (n, λ h. omega (arith, n, p .2 (omega (arith, n, h))), p .3, λ e. p .4 (and-true _ _ (sym (t .also .ensures) ∙ e) .0), p .5)
 
 -- the places that later ones look back to: the start and the decode
 abbrev start : tie.After-decode-with → tie.Start

@@ -21,7 +21,7 @@ decode-into-requires : tie.Need-decode-into-requires
 decode-into-requires c κs =
     let t = c .before .before .before .before .before .before .before in
     let p = t .before .before .before .before .before .before .before .before .before .before .pre in
-    (p .0, p .1, λ h. omega (arith, t .if1 .taken, t .before .data-count .ensures), clear-made 128, λ e. none-clear)
+    (p .0, p .1, λ h. omega (arith, t .if1 .taken, t .before .data-count .ensures), clear-made 128, (λ e. none-clear), p .2)
 
 same-length : tie.Need-same-length
 same-length c = search needs
@@ -48,7 +48,7 @@ slice-aggregate-decode-into-4 : tie.Need-slice-aggregate-decode-into-4
 slice-aggregate-decode-into-4 c = search needs
 
 decode-into-requires-2 : tie.Need-decode-into-requires-2
-decode-into-requires-2 c κs = let p = c .before .before .before .before .before .before .before .before .before .before .before .before .before .before .before .before .before .pre in (p .0, p .1, λ h. h, clear-made 4096, λ e. none-clear)
+decode-into-requires-2 c κs = let p = c .before .before .before .before .before .before .before .before .before .before .before .before .before .before .before .before .before .pre in (p .0, p .1, λ h. h, clear-made 4096, (λ e. none-clear), p .2)
 
 same-length-6 : tie.Need-same-length-6
 same-length-6 c = search needs

@@ -1,0 +1,181 @@
+// The C calls on bit pages, exported: each is the function of its C form.
+ghost use mathlib.Core.Path.{_≡_};
+ghost use mathlib.Core.Bool.{true};
+ghost use Rattle.model.specs.Code.{bitPages, codeIn};
+ghost use Rattle.model.specs.Decoder.{stateBy, decodedCounts};
+ghost use Rattle.model.specs.Calls.{tableAnswer, encodeOutcome, syndromeOutcome, openOutcome};
+ghost use Rattle.model.specs.Bytes.{positionsOf, cDecodeOutcome, cPassOutcome, cExplainOutcome};
+ghost use Rattle.model.specs.Demand.{Encodes, DecodeFalls, DecodeRecovers, PassFalls};
+
+// Checks a code table.
+#[no_mangle]
+pub extern "C" fn qmtd_bits_check_table(q: u32, k: u32, b: u32, table: &[u8]) -> u32
+    ensures { λ r. ⌜ r ≡ tableAnswer (codeIn bitPages q k b (positionsOf (now (table .entry)))) ⌝ }
+{
+    c_page::check_table(true, q, k, b, table)
+}
+
+// Encodes data into a page.
+#[no_mangle]
+pub extern "C" fn qmtd_bits_encode(
+    q: u32,
+    k: u32,
+    b: u32,
+    table: &[u8],
+    data: &[u8],
+    page: &mut [u8],
+) -> u32
+    ensures outcome { λ r. ⌜ record { number = r; left = now (page .exit) }
+        ≡ encodeOutcome (codeIn bitPages q k b (positionsOf (now (table .entry)))) (now («data» .entry)) (now (page .entry)) ⌝ }
+    ensures word { λ r. ⌜ (r ≡ 0 → Encodes (codeIn bitPages q k b (positionsOf (now (table .entry)))) (now («data» .entry)) (now (page .exit))) ⌝ }
+{
+    c_page::encode(true, q, k, b, table, data, page)
+}
+
+// Works out the syndrome of a page.
+#[no_mangle]
+pub extern "C" fn qmtd_bits_syndrome(
+    q: u32,
+    k: u32,
+    b: u32,
+    table: &[u8],
+    page: &[u8],
+    syndrome: &mut [u8],
+) -> u32
+    ensures { λ r. ⌜ record { number = r; left = now (syndrome .exit) }
+        ≡ syndromeOutcome (codeIn bitPages q k b (positionsOf (now (table .entry)))) (now (page .entry)) (now (syndrome .entry)) ⌝ }
+{
+    c_page::syndrome(true, q, k, b, table, page, syndrome)
+}
+
+// Decodes a page.
+#[no_mangle]
+pub extern "C" fn qmtd_bits_decode(
+    q: u32,
+    k: u32,
+    b: u32,
+    table: &[u8],
+    page: &[u8],
+    thresholds: &[u8],
+    result: &mut [u8],
+    syndrome: &mut [u8],
+    difference: &mut [u8],
+    margins: &mut [u8],
+    counts: &mut [u8],
+) -> u32
+    ensures outcome { λ r. ⌜ record {
+      number = r;
+      left = record {
+        state = stateBy (now (result .exit)) (now (syndrome .exit)) (now (difference .exit));
+        margins = now (margins .exit);
+        counts = now (counts .exit);
+      };
+    } ≡ cDecodeOutcome (codeIn bitPages q k b (positionsOf (now (table .entry)))) true (now (page .entry)) (now (thresholds .entry))
+        (stateBy (now (result .entry)) (now (syndrome .entry)) (now (difference .entry))) (now (margins .entry)) (now (counts .entry)) ⌝ }
+    ensures falling { λ r. ⌜ (r ≡ 0 → DecodeFalls (codeIn bitPages q k b (positionsOf (now (table .entry)))) (now (thresholds .entry)) (now (page .entry))
+        (decodedCounts (codeIn bitPages q k b (positionsOf (now (table .entry)))) (now (thresholds .entry)) (now (page .entry)))) ⌝ }
+    ensures recovery { λ r. ⌜ (r ≡ 0 → DecodeRecovers (codeIn bitPages q k b (positionsOf (now (table .entry)))) (now (thresholds .entry)) (now (page .entry))
+        (now (result .exit))) ⌝ }
+{
+    c_decoder::decode(
+        true,
+        q,
+        k,
+        b,
+        table,
+        page,
+        thresholds,
+        result,
+        syndrome,
+        difference,
+        margins,
+        counts,
+    )
+}
+
+// Opens a page.
+#[no_mangle]
+pub extern "C" fn qmtd_bits_open(
+    q: u32,
+    k: u32,
+    b: u32,
+    table: &[u8],
+    page: &[u8],
+    result: &mut [u8],
+    syndrome: &mut [u8],
+    difference: &mut [u8],
+) -> u32
+    ensures { λ r. ⌜ record { number = r; left = stateBy (now (result .exit)) (now (syndrome .exit)) (now (difference .exit)) }
+        ≡ openOutcome (codeIn bitPages q k b (positionsOf (now (table .entry)))) (now (page .entry))
+        (stateBy (now (result .entry)) (now (syndrome .entry)) (now (difference .entry))) ⌝ }
+{
+    c_page::open(true, q, k, b, table, page, result, syndrome, difference)
+}
+
+// Makes one pass.
+#[no_mangle]
+pub extern "C" fn qmtd_bits_pass(
+    q: u32,
+    k: u32,
+    b: u32,
+    table: &[u8],
+    threshold: u32,
+    result: &mut [u8],
+    syndrome: &mut [u8],
+    difference: &mut [u8],
+    changes: &mut [u8],
+) -> u32
+    ensures outcome { λ r. ⌜ record {
+      number = r;
+      left = record { state = stateBy (now (result .exit)) (now (syndrome .exit)) (now (difference .exit)); changes = now (changes .exit) };
+    } ≡ cPassOutcome (codeIn bitPages q k b (positionsOf (now (table .entry)))) threshold
+        (stateBy (now (result .entry)) (now (syndrome .entry)) (now (difference .entry))) (now (changes .entry)) ⌝ }
+    ensures falling { λ r. ⌜ (r ≡ 0 → PassFalls (codeIn bitPages q k b (positionsOf (now (table .entry)))) threshold
+        (stateBy (now (result .entry)) (now (syndrome .entry)) (now (difference .entry)))) ⌝ }
+{
+    c_passing::pass(
+        true,
+        q,
+        k,
+        b,
+        table,
+        threshold,
+        result,
+        syndrome,
+        difference,
+        changes,
+    )
+}
+
+// Explains a data symbol.
+#[no_mangle]
+pub extern "C" fn qmtd_bits_explain(
+    q: u32,
+    k: u32,
+    b: u32,
+    table: &[u8],
+    threshold: u32,
+    symbol: u32,
+    result: &[u8],
+    syndrome: &[u8],
+    difference: &[u8],
+    answer: &mut [u8],
+) -> u32
+    ensures { λ r. ⌜ record { number = r; left = now (answer .exit) }
+        ≡ cExplainOutcome (codeIn bitPages q k b (positionsOf (now (table .entry)))) threshold symbol
+        (stateBy (now (result .entry)) (now (syndrome .entry)) (now (difference .entry))) (now (answer .entry)) ⌝ }
+{
+    c_explainer::explain(
+        true,
+        q,
+        k,
+        b,
+        table,
+        threshold,
+        symbol,
+        result,
+        syndrome,
+        difference,
+        answer,
+    )
+}
