@@ -4,14 +4,15 @@ them, and what the examples charger.c, branches.c, outer.c and screen.c must pri
     make_pages.py            write the files
     make_pages.py --check    compare them, byte for byte
 
-Every expected byte comes from reference.py, which first tries itself on the worked cases of document 01. README.md
-beside this file has the format.
+Every expected byte comes from reference.py and bits.py, which first try themselves on pages worked out by hand, those
+of document 01 among them. README.md beside this file has the format.
 """
 
 import itertools
 import sys
 from pathlib import Path
 
+import bits
 import examples
 import reference as ref
 import screen
@@ -731,11 +732,13 @@ REFUSALS = {CHECK_TABLE: ORDER[:6], ENCODE: ORDER[:8], SYNDROME: ORDER[:8], DECO
             DECODE_OUTER: ORDER + (12,)}
 
 
-def spoiled_branches(call, met):
+def spoiled_branches(call, met, by=ref):
     """The tests and the arguments of a call with two branches, or nine, that meets these refusals. k is 40 and the runs
     are 0, d for d from 1 up. With refusal 2 k is 4,097 and the lengths are still those of 40, so that 6 is met too. In a
-    pass and an explanation 6 and 7 are met by D. Blocks are of 2 symbols, with refusal 12 of 7."""
-    q = 2 if 1 in met else 5
+    pass and an explanation 6 and 7 are met by D. Blocks are of 2 symbols, with refusal 12 of 7. `by` is the module of
+    the profile."""
+    right, other = (2, 3) if by is bits else (5, 2)
+    q = other if 1 in met else right
     b = 9 if 10 in met else 2
     runs = [[0, d] for d in range(1, b + 1)]
     if 3 in met:
@@ -754,37 +757,37 @@ def spoiled_branches(call, met):
         thresholds[1] = 33
     code = (q, k, b, ref.table_of(*runs))
     if call == CHECK_TABLE:
-        return ref.table_tests(*code), code, {}
+        return by.table_tests(*code), code, {}
     if call == ENCODE:
         page_len = (b + 1) * lengths_k
-        return ref.encode_tests(*code, symbols, page_len), (*code, symbols), {"page_len": page_len}
+        return by.encode_tests(*code, symbols, page_len), (*code, symbols), {"page_len": page_len}
     if call == ENCODE_OUTER:
         page_len, arguments = (b + 1) * lengths_k, (*code, 7 if 12 in met else 2, symbols)
         return ref.encode_outer_tests(*arguments, page_len), arguments, {"page_len": page_len}
     if call == SYNDROME:
-        return ref.syndrome_tests(*code, symbols, lengths_k), (*code, symbols), {"syndrome_len": lengths_k}
+        return by.syndrome_tests(*code, symbols, lengths_k), (*code, symbols), {"syndrome_len": lengths_k}
     if call == OPEN:
         lengths = ref.buffer_lengths(lengths_k, b)
-        return ref.open_tests(*code, symbols, *lengths), (*code, symbols), {"lengths": lengths}
+        return by.open_tests(*code, symbols, *lengths), (*code, symbols), {"lengths": lengths}
     if call == PASS:
         arguments = (*code, 33 if 9 in met else 0, [0] * (b * lengths_k), [0] * lengths_k, symbols)
-        return ref.pass_tests(*arguments, 4), arguments, {}
+        return by.pass_tests(*arguments, 4), arguments, {}
     if call == EXPLAIN:
         arguments = (*code, 33 if 9 in met else 0, b * k if 11 in met else 0, [0] * (b * lengths_k), [0] * lengths_k,
                      symbols)
-        return ref.explain_tests(*arguments, 24), arguments, {}
+        return by.explain_tests(*arguments, 24), arguments, {}
     lengths = ref.decode_lengths(lengths_k, b)
     if call == DECODE_OUTER:
         arguments = (*code, 7 if 12 in met else 2, symbols, thresholds)
         return ref.decode_outer_tests(*arguments, *lengths), arguments, {"lengths": lengths}
-    return (ref.decode_tests(*code, symbols, thresholds, *lengths), (*code, symbols, thresholds),
+    return (by.decode_tests(*code, symbols, thresholds, *lengths), (*code, symbols, thresholds),
             {"lengths": lengths})
 
 
-def refused_by_first(call, add, sets):
+def refused_by_first(call, add, sets, by=ref):
     """For each set of refusals a call that meets them; the first of the set is returned."""
     for met in sets:
-        tests, arguments, lengths = spoiled_branches(call, met)
+        tests, arguments, lengths = spoiled_branches(call, met, by)
         applies = [number for number, test in tests if test()]
         assert set(met) <= set(applies) and applies[0] == met[0]
         add(*arguments, **lengths, expect=met[0])
@@ -957,8 +960,9 @@ def with_leads(random, q, k, runs, leads):
     to be changed. Returns the data sent and the page.
 
     A symbol is replaced, and J - 1 - lead of its checks: the others agree on the damage, and each of the replaced ones
-    says something else, as d does. The symbols are of the branches in turn and have no check in common, so that a pass
-    changes those whose lead is above its threshold, once, and they then stay."""
+    says something else, as d does. On bits a replaced one says 0, as d does, so that half as many are; J - 1 - lead is
+    then even. The symbols are of the branches in turn and have no check in common, so that a pass changes those whose
+    lead is above its threshold, once, and they then stay."""
     b, j = len(runs), len(runs[0])
     data = random.symbols(q, b * k)
     page, used = ref.code_word(q, k, runs, data), set()
@@ -968,9 +972,9 @@ def with_leads(random, q, k, runs, leads):
             symbol = n % b * k + random.below(k)
         checks = ref.checks_of(k, runs, symbol)
         used |= set(checks)
-        error, *others = random.some(range(1, q), j - lead)
+        error, *others = random.some(range(1, q), j - lead) if q > 2 else [1] + [0] * ((j - 1 - lead) // 2)
         page[symbol] = (page[symbol] + error) % q
-        for check, other in zip(random.some(checks, j - 1 - lead), others):
+        for check, other in zip(random.some(checks, len(others)), others):
             # S is to be `other` there.
             page[b * k + check] = (page[b * k + check] + error - other) % q
     return data, page
@@ -1034,6 +1038,32 @@ def schedules_case_7(pages, random):
         assert got.counts.changes == (min(thresholds) < 3)
 
 
+# Threshold lists, for symbols with leads of 7, 5, 3 and 1: the places of the passes run, and their changes.
+PASSES_BY_LEADS = (
+    ([8, 7, 6, 4, 2, 0], [0, 1, 2, 3, 4, 5], [0, 0, 1, 1, 1, 1]),
+    ([8, 8, 7, 7, 6, 6, 0], [0, 2, 4, 5, 6], [0, 0, 1, 0, 3]),
+    ([0, 0, 0], [0, 1], [4, 0]),
+    ([6, 6, 6], [0, 1], [1, 0]),
+    ([6, 7, 8, 5, 0], [0, 1, 3, 4], [1, 0, 0, 3]),
+    ([7, 8, 7, 6], [0, 3], [0, 1]),
+    ([7, 8, 9, 7], [0], [0]),
+    ([3, 6, 0], [0, 1, 2], [2, 0, 2]),
+    ([3, 6, 6, 3, 3, 6, 0], [0, 1, 3, 6], [2, 0, 0, 2]),
+    ([4, 4, 4, 2], [0, 1, 3], [2, 0, 1]),
+    ([4, 2, 4, 2, 0], [0, 1, 2, 3, 4], [2, 1, 0, 0, 1]),
+    ([0, 5, 4, 3, 2, 1, 0], [0, 1, 2, 3, 4, 5, 6], [4, 0, 0, 0, 0, 0, 0]),
+    ([1, 2, 3, 4], [0, 1], [3, 0]),
+    ([7, 3, 5, 2, 4, 1, 3, 0], [0, 1, 2, 3, 4, 5, 7], [0, 2, 0, 1, 0, 0, 1]),
+    ([32, 31, 30, 6, 6, 6, 5, 4], [0, 1, 2, 3, 4, 6, 7], [0, 0, 0, 1, 0, 0, 1]),
+    ([32] * 63 + [6], [0, 63], [0, 1]),
+    ([6] + [32] * 62 + [0], [0, 1, 63], [1, 0, 3]),
+    ([7] * 30 + [6] * 30 + [5, 4, 4, 5], [0, 30, 31, 60, 61, 62], [0, 1, 0, 0, 1, 0]),
+    (list(range(32, 0, -1)) + list(range(31, -1, -1)), list(range(32)) + [63],
+     [0] * 26 + [1, 0, 1, 0, 1, 0] + [1]),
+    (list(range(31, -1, -1)) + list(range(32, 0, -1)), list(range(64)),
+     [0] * 25 + [1, 0, 1, 0, 1, 0, 1] + [0] * 32))
+
+
 @group("schedules, idle passes at every place")
 def schedules_idle(pages, random):
     """Symbols of known leads, J = 8: what each pass has to change is known."""
@@ -1049,31 +1079,7 @@ def schedules_idle(pages, random):
         leads = [lead for lead in range(1, 8) if lead != idle]
         changes = [0] + [0 if t == idle - 1 else 1 for t in falling[1:]]
         scheduled(pages, random, 251, k, [positions], leads, falling, list(range(8)), changes)
-    # Leads 7, 5, 3 and 1.
-    for thresholds, places, changes in (
-            ([8, 7, 6, 4, 2, 0], [0, 1, 2, 3, 4, 5], [0, 0, 1, 1, 1, 1]),
-            ([8, 8, 7, 7, 6, 6, 0], [0, 2, 4, 5, 6], [0, 0, 1, 0, 3]),
-            ([0, 0, 0], [0, 1], [4, 0]),
-            ([6, 6, 6], [0, 1], [1, 0]),
-            ([6, 7, 8, 5, 0], [0, 1, 3, 4], [1, 0, 0, 3]),
-            ([7, 8, 7, 6], [0, 3], [0, 1]),
-            ([7, 8, 9, 7], [0], [0]),
-            ([3, 6, 0], [0, 1, 2], [2, 0, 2]),
-            ([3, 6, 6, 3, 3, 6, 0], [0, 1, 3, 6], [2, 0, 0, 2]),
-            ([4, 4, 4, 2], [0, 1, 3], [2, 0, 1]),
-            ([4, 2, 4, 2, 0], [0, 1, 2, 3, 4], [2, 1, 0, 0, 1]),
-            ([0, 5, 4, 3, 2, 1, 0], [0, 1, 2, 3, 4, 5, 6], [4, 0, 0, 0, 0, 0, 0]),
-            ([1, 2, 3, 4], [0, 1], [3, 0]),
-            ([7, 3, 5, 2, 4, 1, 3, 0], [0, 1, 2, 3, 4, 5, 7], [0, 2, 0, 1, 0, 0, 1]),
-            ([32, 31, 30, 6, 6, 6, 5, 4], [0, 1, 2, 3, 4, 6, 7], [0, 0, 0, 1, 0, 0, 1]),
-            ([32] * 63 + [6], [0, 63], [0, 1]),
-            ([6] + [32] * 62 + [0], [0, 1, 63], [1, 0, 3]),
-            ([7] * 30 + [6] * 30 + [5, 4, 4, 5], [0, 30, 31, 60, 61, 62], [0, 1, 0, 0, 1, 0]),
-            (list(range(32, 0, -1)) + list(range(31, -1, -1)), list(range(32)) + [63],
-             [0] * 26 + [1, 0, 1, 0, 1, 0] + [1]),
-            (list(range(31, -1, -1)) + list(range(32, 0, -1)), list(range(64)),
-             [0] * 25 + [1, 0, 1, 0, 1, 0, 1] + [0] * 32),
-    ):
+    for thresholds, places, changes in PASSES_BY_LEADS:
         scheduled(pages, random, 256, k, [positions], [7, 5, 3, 1], thresholds, places, changes)
 
 
@@ -2234,8 +2240,536 @@ def outer_c_only(pages, random):
             pages.decode_outer(5, *ref.K_16[1:], length, [0] * 32, [0], lengths=(16, 16, 16, margins_len), expect=6)
 
 
+# Bit pages (request N9)
+
+def smallest_k(j):
+    """The smallest k of Singer's tables that has j positions."""
+    return min(k for k, p in SINGER.items() if p + 1 >= j)
+
+
+def seven_calls(calls, q, k, b, table, lent_for=None, expect=None):
+    """The seven calls of a profile on symbols that are all 0, in buffers for this k and b or for another pair."""
+    other_k, other_b = lent_for or (k, b)
+    n, page = other_b * other_k, [0] * ((other_b + 1) * other_k)
+    calls.check_table(q, k, b, table, expect=expect)
+    calls.encode(q, k, b, table, [0] * n, page_len=len(page), expect=expect)
+    calls.syndrome(q, k, b, table, page, syndrome_len=other_k, expect=expect)
+    calls.decode(q, k, b, table, page, [0], lengths=ref.decode_lengths(other_k, other_b), expect=expect)
+    calls.open_and_pass(q, k, b, table, (other_k, other_b), expect=expect)
+    asked_of_zeros(calls, q, k, b, table, (other_k, other_b), expect=expect)
+
+
+@group("bits, the limits of q")
+def bits_q(pages, random):
+    """2 alone passes; numbers whose low bits are 2 are among the others."""
+    for q in (0, 1, 2, 3, 4, 256, 257, 258, 65538, 2 ** 31 + 2, 2 ** 32 - 1):
+        seven_calls(pages.bits, q, 13, 1, ref.CODE_A, expect=0 if q == 2 else 1)
+    # 1 comes first, whatever else is amiss.
+    for q in (0, 1, 3, 256, 2 ** 32 - 1):
+        pages.bits.check_table(q, 0, 9, b"", expect=1)
+        pages.bits.decode(q, 4097, 0, b"", [255], [33] * 65, lengths=(1, 2, 3, 4), expect=1)
+        pages.bits.pass_once(q, 12, 1, ref.CODE_A, 33, [2], [255], [3], expect=1)
+        pages.bits.explain(q, 12, 1, ref.CODE_A, 33, 2 ** 32 - 1, [2], [255], [3], expect=1)
+
+
+@group("bits, pages worked by hand")
+def bits_by_hand(pages, random):
+    data = ref.symbols(13, {0: 1, 12: 1})
+    pages.bits.encode(*bits.A, data, expect=0)
+    pages.bits.syndrome(*bits.A, data + [0] * 13, expect=0)
+    for page, thresholds, *_, counts in bits.PAGES:
+        assert pages.bits.decode(*bits.A, page, thresholds, expect=0).counts == counts
+    # k = 1: the page is the bit twice.
+    for bit in (0, 1):
+        pages.bits.encode(2, 1, 1, ref.table_of([0]), [bit], expect=0)
+        for check in (0, 1):
+            got = pages.bits.decode(2, 1, 1, ref.table_of([0]), [bit, check], [0], expect=0)
+            assert got.result == [bit] and got.margins == [2 if bit == check else 0]
+
+
+@group("bits, tables")
+def bits_tables(pages, random):
+    for k, b, j in ((1, 1, 1), (1, 8, 1), (7, 1, 3), (13, 2, 3), (17, 8, 2), (57, 1, 8), (307, 1, 17), (400, 7, 8),
+                    (512, 8, 7), (993, 1, 31), (993, 1, 32), (2048, 2, 20), (4096, 1, 32)):
+        code, _ = some_code(random, 2, k, b, j)
+        pages.bits.check_table(*code, expect=0)
+    for k, b, runs, number in ((0, 1, [[0]], 2), (4097, 1, [[0]], 2), (13, 0, [[0]], 10), (13, 9, [[0]] * 9, 10),
+                               (2049, 2, [[0], [0]], 10), (513, 8, [[0]] * 8, 10), (13, 1, [], 3),
+                               (4096, 1, [range(33)], 3), (13, 2, [[0, 1, 4]], 3), (13, 1, [[0, 13]], 4),
+                               (13, 1, [[0, 4, 1]], 4), (13, 2, [[0, 1], [2, 2]], 4), (12, 1, [[0, 1, 4, 6]], 5),
+                               (4096, 1, [[0, 2048]], 5), (13, 2, [[0, 1], [0, 1]], 5), (13, 2, [[0, 1], [0, 12]], 5)):
+        pages.bits.check_table(2, k, b, ref.table_of(*runs), expect=number)
+
+
+@group("bits, encode and syndrome")
+def bits_encode(pages, random):
+    for k, b, j in ((1, 1, 1), (1, 8, 1), (2, 1, 1), (3, 1, 2), (7, 1, 3), (13, 1, 4), (5, 2, 2), (13, 2, 3), (31, 1, 5),
+                    (40, 3, 4), (57, 1, 8), (31, 7, 2), (17, 8, 2), (133, 1, 11), (156, 5, 6), (307, 1, 18), (993, 1, 32),
+                    (512, 8, 7), (1365, 3, 3), (4096, 1, 10)):
+        code, runs = some_code(random, 2, k, b, j)
+        data = random.symbols(2, b * k)
+        pages.bits.encode(*code, data, expect=0)
+        if b * k < 1000:
+            word = ref.code_word(2, k, runs, data)
+            pages.bits.syndrome(*code, word, expect=0)
+            pages.bits.syndrome(*code, damaged(random, 2, word, [random.below(len(word))]), expect=0)
+            pages.bits.syndrome(*code, random.symbols(2, (b + 1) * k), expect=0)
+    # All ones, so that a check is the parity of b times J; all zeros.
+    for k, b, j in ((57, 1, 7), (57, 1, 8), (993, 1, 31), (993, 1, 32), (31, 7, 2), (27, 5, 1), (27, 8, 1)):
+        code, _ = some_code(random, 2, k, b, j)
+        pages.bits.encode(*code, [1] * (b * k), expect=0)
+        pages.bits.syndrome(*code, [1] * (b * k) + [0] * k, expect=0)
+        pages.bits.syndrome(*code, [0] * (b * k) + [1] * k, expect=0)
+    pages.bits.encode(*bits.A, [0] * 13, expect=0)
+
+
+def bits_decoded(pages, random, code, runs, thresholds, places):
+    """A page with the bits at these places replaced. Inside the bound the data comes back. Returns what decode gave."""
+    _, k, b, _ = code
+    data = random.symbols(2, b * k)
+    page = damaged(random, 2, ref.code_word(2, k, runs, data), places)
+    got = pages.bits.decode(*code, page, thresholds, expect=0)
+    assert got.result == data or 2 * len(places) + min(thresholds) > len(runs[0])
+    return got
+
+
+# k, b and J of codes with odd and even numbers of estimates, up to eight branches.
+BIT_CODES = ((3, 1, 2), (7, 1, 3), (13, 1, 4), (31, 1, 5), (31, 1, 6), (57, 1, 7), (57, 1, 8), (133, 1, 11),
+             (133, 1, 12), (13, 2, 3), (40, 3, 4), (15, 2, 3), (27, 4, 3), (156, 5, 6), (13, 6, 2), (31, 7, 2),
+             (17, 8, 2), (307, 1, 18), (993, 1, 31), (993, 1, 32))
+
+
+@group("bits, decode, clean pages")
+def bits_clean(pages, random):
+    for at, (k, b, j) in enumerate(((1, 1, 1), (1, 8, 1), *BIT_CODES)):
+        code, runs = some_code(random, 2, k, b, j)
+        got = bits_decoded(pages, random, code, runs, LISTS[at], [])
+        assert got.places == ref.strict_minima(LISTS[at]) and got.counts[1:] == (0, 0, 0)
+
+
+@group("bits, decode, damage inside the bound")
+def bits_inside(pages, random):
+    """As many bits replaced as the smallest threshold allows, anywhere, and on one data bit and its checks."""
+    for at, (k, b, j) in enumerate(BIT_CODES):
+        for least in sorted({0, 1, j // 2} - {j, j - 1})[:1 if k > 150 else 3]:
+            code, runs = some_code(random, 2, k, b, j)
+            t = (j - least) // 2
+            lists = lists_inside(j, least)
+            bits_decoded(pages, random, code, runs, lists[(at + least) % len(lists)], branch_places(k, b, t, random))
+            if k > 150:
+                continue
+            symbol = random.below(b * k)
+            checks = [b * k + i for i in ref.checks_of(k, runs, symbol)]
+            for places in ([symbol] + checks[:t - 1], checks[-t:]):
+                got = bits_decoded(pages, random, code, runs, [least], places)
+                assert got.counts.changes == (symbol in places)
+
+
+@group("bits, decode, damage outside the bound")
+def bits_outside(pages, random):
+    """From one bit more than the bound allows to a quarter of the page."""
+    changed = 0
+    for at, ((k, b, j), share) in enumerate(itertools.product(BIT_CODES, (0, 16, 4))):
+        if k > 900 and share > 0:
+            continue
+        code, runs = some_code(random, 2, k, b, j)
+        count = max((b + 1) * k // share if share else 0, j // 2 + 1)
+        thresholds = ([0] * 4, [2, 1, 0, 0, 0], [j // 2, 0, 0], [1] * 3, [0] * 12)[at % 5]
+        got = bits_decoded(pages, random, code, runs, thresholds, branch_places(k, b, count, random))
+        changed += got.counts.changes > 0
+    assert changed > 40
+    # The checks of one data bit replaced, so many that it is changed though it was right.
+    for k, b, j in ((13, 1, 4), (57, 1, 7), (40, 3, 4), (307, 1, 18)):
+        code, runs = some_code(random, 2, k, b, j)
+        checks = ref.checks_of(k, runs, random.below(b * k))[:(j + 1) // 2 + 1]
+        got = bits_decoded(pages, random, code, runs, [0], [b * k + i for i in checks])
+        assert got.counts.changes > 0 and got.counts.end < got.counts.start
+
+
+@group("bits, decode, every bit random")
+def bits_heavy(pages, random):
+    """Every J up to 14 and some above."""
+    for j in (*range(1, 15), 16, 17, 20, 23, 31, 32):
+        code, _ = some_code(random, 2, smallest_k(j), 1, j)
+        thresholds = random.pick(([0] * 8, [j // 4, 1, 0, 0], [2, 1, 0], [0] * 64))
+        pages.bits.decode(*code, random.symbols(2, 2 * code[1]), thresholds, expect=0)
+    for k, b, j, thresholds in ((1, 2, 1, [0] * 3), (1, 8, 1, [0]), (5, 2, 2, [0] * 8), (13, 2, 3, [0] * 16),
+                                (40, 3, 4, [1, 0, 0]), (17, 8, 2, [0] * 16), (156, 5, 6, [2, 0, 0])):
+        code, _ = some_code(random, 2, k, b, j)
+        pages.bits.decode(*code, random.symbols(2, (b + 1) * k), thresholds, expect=0)
+
+
+@group("bits, decode, every threshold")
+def bits_thresholds(pages, random):
+    """One page with 9 estimates a symbol and one with 8, decoded with each threshold alone, from 0 to 32. S is drawn so
+    that 1 leads by every number of votes that it can."""
+    for j in (7, 8):
+        code, runs = some_code(random, 2, 57, 1, j)
+        page = with_syndrome(2, 57, runs, random.symbols(2, 57), [int(random.below(5) > 0) for _ in range(57)])
+        for threshold in range(33):
+            got = pages.bits.decode(*code, page, [threshold], expect=0)
+            assert (got.counts.changes > 0) == (threshold < j - 1)
+
+
+@group("bits, schedules")
+def bits_schedules(pages, random):
+    """Symbols of known leads: what each pass has to change is known. J = 8 and J = 7; three branches."""
+    positions = greedy(256)[:8]
+    for thresholds, places, changes in PASSES_BY_LEADS:
+        scheduled(pages.bits, random, 2, 256, [positions], [7, 5, 3, 1], thresholds, places, changes)
+    falling = [7, 6, 5, 4, 3, 2, 1, 0]
+    for count, lead in ((8, 7), (8, 5), (8, 1), (7, 6), (7, 4), (7, 2)):
+        scheduled(pages.bits, random, 2, 133, [positions_for(random, 133, count)], [lead], falling, list(range(8)),
+                  [int(t == lead - 1) for t in falling])
+    runs = runs_for(random, 156, 3, 6)
+    for leads in ([5, 3, 1], [1, 5, 3]):
+        for thresholds, places, changes in (([5, 4, 3, 2, 1, 0], [0, 1, 2, 3, 4, 5], [0, 1, 0, 1, 0, 1]),
+                                            ([5, 5, 4, 4, 4, 1], [0, 2, 3, 5], [0, 1, 0, 1]),
+                                            ([2, 6, 7, 2, 0], [0, 1, 3, 4], [2, 0, 0, 1]),
+                                            ([32] * 62 + [0, 0], [0, 62, 63], [0, 3, 0])):
+            scheduled(pages.bits, random, 2, 156, runs, leads, thresholds, places, changes)
+    # Lists of every kind with damage outside the bound.
+    for at, thresholds in enumerate(LISTS):
+        k, b, j = ((57, 1, 8), (31, 1, 5), (40, 3, 4), (57, 1, 7))[at % 4]
+        code, runs = some_code(random, 2, k, b, j)
+        bits_decoded(pages, random, code, runs, thresholds, branch_places(k, b, (b + 1) * k // 8, random))
+
+
+def chain_of_bits(length):
+    """A page, data all 0, on which pass n makes the one change that the change of pass n - 1 calls for.
+
+    k = 1021 and positions 0, 1, 125, 762. The symbols of the chain run down from 921. Neighbours share a check, which is
+    0 until the one before is changed; each has two ones among its other estimates, and then three of five."""
+    s = [0] * 1021
+    for j in range(921, 921 - length, -1):
+        s[(j + 125) % 1021] ^= 1
+        s[(j + 762) % 1021] ^= 1
+    s[922] ^= 1
+    return [0] * 1021 + s
+
+
+@group("bits, 64 passes and all estimates ones")
+def bits_passes(pages, random):
+    table = ref.table_of([0, 1, 125, 762])
+    for length, changes in ((70, [1] * 64), (63, [1] * 63 + [0])):
+        got = pages.bits.decode(2, 1021, 1, table, chain_of_bits(length), [0] * 64, expect=0)
+        assert got.changes_of_pass == changes
+    # Symbol 0 is changed and changed back, by all J + 1 estimates: with a threshold of J, not with J + 1.
+    for k, positions, second, changes in ((512, [0, 1, 20, 60], 4, [4, 1]), (512, [0, 1, 20, 60], 5, [4, 0]),
+                                          (1021, greedy(1021)[:12], 12, [8, 1]),
+                                          (4096, greedy(4096)[:32], 32, [18, 1])):
+        got = pages.bits.decode(2, k, 1, ref.table_of(positions), turned_back(2, k, positions), [0, second], expect=0)
+        assert got.changes_of_pass == changes
+
+
+@group("bits, margins from -(J + 1) to J + 1")
+def bits_margins(pages, random):
+    """Zeros minus ones: each value that it can have. -(J + 1) is that of a bit that was changed and is to be changed
+    back. A threshold of 32 leaves every received page as it is."""
+    for k, positions in ((512, [0, 1, 20, 60]), (512, greedy(512)[:7]), (512, greedy(512)[:8]), (1021, greedy(1021)[:12])):
+        table, j = ref.table_of(positions), len(positions)
+        seen = set(pages.bits.decode(2, k, 1, table, stepped(random, 2, k), [32], expect=0).margins)
+        assert seen == set(range(1 - j, j + 2, 2))
+    for k, positions in ((512, [0, 1, 20, 60]), (512, greedy(512)[:8])):
+        got = pages.bits.decode(2, k, 1, ref.table_of(positions), turned_back(2, k, positions), [0], expect=0)
+        assert got.margins[0] == -len(positions) - 1
+    for k, b, j in ((512, 2, 4), (512, 8, 5)):
+        runs = greedy_runs(k, b, j)
+        page = [0] * (b * k) + [0 if i < k // 2 else int(random.below(8) > 0) for i in range(k)]
+        got = pages.bits.decode(2, k, b, ref.table_of(*runs), page, [32], expect=0)
+        for r in range(b):
+            assert set(got.margins[r * k:(r + 1) * k]) == set(range(1 - j, j + 2, 2))
+
+
+@group("bits, openings")
+def bits_openings(pages, random):
+    for k, b, j in ((1, 1, 1), (1, 8, 1), *BIT_CODES):
+        code, runs = some_code(random, 2, k, b, j)
+        got = pages.bits.open_page(*code, random.symbols(2, (b + 1) * k), expect=0)
+        assert not any(got.difference)
+        if k < 100:
+            data = random.symbols(2, b * k)
+            got = pages.bits.open_page(*code, ref.code_word(2, k, runs, data), expect=0)
+            assert got == (data, [0] * k, [0] * (b * k))
+    for k, b, j in ((57, 1, 7), (57, 1, 8), (31, 7, 2)):
+        code, _ = some_code(random, 2, k, b, j)
+        pages.bits.open_page(*code, [1] * ((b + 1) * k), expect=0)
+
+
+@group("bits, passes on opened pages")
+def bits_passes_opened(pages, random):
+    """Inside the bound and outside it, no pass skipped; refused ones between those that are made; the passes of a
+    decode."""
+    for k, b, j, replaced, thresholds in (
+            (13, 1, 4, 2, [0, 0]), (13, 1, 4, 1, [2]), (31, 1, 6, 3, [4, 1, 0]), (31, 1, 5, 2, [32, 1]),
+            (57, 1, 8, 2, [3, 4]), (13, 2, 3, 1, [1, 0]), (31, 7, 2, 1, [1, 0]), (17, 8, 2, 1, [0]),
+            (13, 1, 4, 6, [2, 0, 0]), (31, 1, 6, 10, [1, 0, 0]), (57, 1, 8, 14, [2, 1, 0, 0]),
+            (57, 1, 7, 19, [3, 0, 3, 0]), (40, 2, 4, 13, [1, 0, 0]), (40, 3, 4, 20, [2, 1, 0, 0]), (17, 8, 2, 8, [1, 0])):
+        code, runs = some_code(random, 2, k, b, j)
+        opened_passes(pages.bits, random, code, runs, replaced, thresholds)
+    for k, b, j, replaced, calls in (
+            (13, 1, 4, 2, [4294967295, 33, 0]), (13, 1, 4, 1, [(0, RESULT, -1), 2, (0, RESULT, 1), 2]),
+            (31, 1, 6, 3, [2, (0, S, -1), (0, S, 1), 0]), (31, 1, 5, 2, [(0, D, -1), (1, D, 1), 1, 256]),
+            (13, 2, 3, 1, [33, (0, RESULT, -13), 1, (0, D, -13)]), (17, 8, 2, 1, [(0, RESULT, 17), 2147483648, 0])):
+        code, runs = some_code(random, 2, k, b, j)
+        opened_passes(pages.bits, random, code, runs, replaced, calls)
+    for k, b, j, replaced, thresholds in ((31, 1, 6, 9, [4, 4, 2, 0, 0]), (57, 1, 7, 16, [3, 0, 2, 1, 0]),
+                                          (40, 3, 4, 12, [2, 1, 3, 0, 0])):
+        code, runs = some_code(random, 2, k, b, j)
+        page = damaged(random, 2, ref.code_word(2, k, runs, random.symbols(2, b * k)),
+                       branch_places(k, b, replaced, random))
+        decoded = pages.bits.decode(*code, page, thresholds, expect=0)
+        buffers = pages.bits.open_page(*code, page, expect=0)
+        after, made = passes_in_turn(pages.bits, code, buffers, [thresholds[i] for i in decoded.places])
+        assert after == decoded[:3] and made == decoded.changes_of_pass and sum(made) > 0
+
+
+@group("bits, passes on buffers of any content")
+def bits_passes_any(pages, random):
+    """Every J: mostly ones, or every bit random. Then passes in turn, and S and D all 0."""
+    for j in range(1, 33):
+        code, _ = some_code(random, 2, smallest_k(j), 1, j)
+        buffers = (any_buffers, random_buffers)[j // 2 % 2](random, 2, code[1], 1)
+        pages.bits.pass_once(*code, (0, 1, 0, j // 4)[j % 4], *buffers, expect=0)
+    for k, b, j, buffers_of in ((57, 1, 8, any_buffers), (17, 8, 2, any_buffers), (31, 1, 6, random_buffers),
+                                (27, 4, 3, random_buffers)):
+        code, _ = some_code(random, 2, k, b, j)
+        _, made = passes_in_turn(pages.bits, code, buffers_of(random, 2, k, b), [j, j // 2, 0, 0])
+        assert sum(changes > 0 for changes in made) > 1
+    for k, b, j, threshold in ((1, 1, 1, 0), (1, 8, 1, 32), (13, 1, 4, 4), (17, 8, 2, 0)):
+        code, _ = some_code(random, 2, k, b, j)
+        got = pages.bits.pass_once(*code, threshold, random.symbols(2, b * k), [0] * k, [0] * (b * k), expect=0)
+        assert got.changes == 0
+    # J = 1 and D = S, all ones: every bit is changed, so that the number of changes takes two bytes.
+    for k in (255, 256, 300):
+        got = pages.bits.pass_once(2, k, 1, ref.table_of([0]), 1, random.symbols(2, k), [1] * k, [1] * k, expect=0)
+        assert got.changes == k and not any(got.syndrome + got.difference)
+
+
+def ones_in_any_order(random, j, ones):
+    """J + 1 estimates with so many ones."""
+    return in_any_order(random, {1: ones, 0: j + 1 - ones})
+
+
+@group("bits, passes, every number of ones")
+def bits_passes_votes(pages, random):
+    """The estimates of one symbol have so many ones; each other symbol has one of its checks at most and is left. The
+    threshold is the largest that lets the lead through, and the smallest that does not."""
+    for k, j in ((7, 1), (7, 2), (7, 3), (13, 4), (31, 5), (31, 6), (57, 7), (57, 8), (993, 31), (993, 32)):
+        code, runs = some_code(random, 2, k, 1, j)
+        for ones in range(j + 2) if j < 9 else (j // 2, j // 2 + 1, j, j + 1):
+            symbol, lead = random.below(k), 2 * ones - (j + 1)
+            values = ones_in_any_order(random, j, ones)
+            s = ref.symbols(k, dict(zip(ref.checks_of(k, runs, symbol), values[1:])))
+            for threshold in sorted({max(lead - 1, 0), min(max(lead, 0), 32)}):
+                got = pages.bits.pass_once(*code, threshold, random.symbols(2, k), s, ref.symbols(k, {symbol: values[0]}),
+                                           expect=0)
+                assert got.changes == (lead > threshold)
+
+
+def bits_explained(pages, random, code, runs, symbol, threshold, values):
+    """The estimates of a symbol are these values: the answer follows from their ones. Returns the ground."""
+    buffers = with_estimates(random, code, runs, symbol, values)
+    got = pages.bits.explain(*code, threshold, symbol, *buffers, expect=0)
+    ones, zeros = values.count(1), values.count(0)
+    assert got[1:4] == (int(ones > zeros), max(ones, zeros), min(ones, zeros))
+    assert [got.bits >> i & 1 for i in range(64)] == [int(value == got.h0) for value in values] + [0] * (64 - len(values))
+    return got.ground
+
+
+@group("bits, explanations, every number of ones")
+def bits_explain_ones(pages, random):
+    """Up to J = 8 each number with the largest threshold below the lead and with the lead; above it for every J the
+    numbers about half."""
+    for j in range(1, 9):
+        code, runs = some_code(random, 2, smallest_k(j), 1, j)
+        for ones in range(j + 2):
+            lead = abs(2 * ones - (j + 1))
+            for threshold in sorted({max(lead - 1, 0), lead}):
+                ground = bits_explained(pages, random, code, runs, random.below(code[1]), threshold,
+                                        ones_in_any_order(random, j, ones))
+                assert ground == (1 if lead <= threshold else 3 if 2 * ones > j + 1 else 2)
+    for j in range(9, 32):
+        code, runs = some_code(random, 2, smallest_k(j), 1, j)
+        for ones in (j // 2, j // 2 + 1, j // 2 + 2)[:3 if j < 15 else 1 + j % 2]:
+            bits_explained(pages, random, code, runs, random.below(code[1]), 0, ones_in_any_order(random, j, ones))
+
+
+@group("bits, explanations, J = 32")
+def bits_explain_widest(pages, random):
+    """33 estimates, each of them in turn the one that differs from the others; then words of both kinds."""
+    code, runs = some_code(random, 2, 993, 1, 32)
+    for at in range(33):
+        values = [(i == at) ^ (at % 2) for i in range(33)]
+        ground = bits_explained(pages, random, code, runs, random.below(993), (30, 31)[at % 4 == 3], values)
+        assert ground == (1 if at % 4 == 3 else 2 + at % 2)
+    for values, threshold, ground in (([0] * 33, 32, 2), ([1] * 33, 32, 3), ([1] * 17 + [0] * 16, 0, 3),
+                                      ([0] * 17 + [1] * 16, 0, 2), ([0] * 16 + [1] * 17, 1, 1),
+                                      ([1] * 16 + [0] * 17, 1, 1), ([1, 0] * 16 + [1], 0, 3), ([0, 1] * 16 + [0], 0, 2)):
+        assert bits_explained(pages, random, code, runs, (0, 992)[values[0]], threshold, values) == ground
+
+
+@group("bits, explanations, ties")
+def bits_explain_ties(pages, random):
+    """As many ones as zeros, which J odd has: h0 is 0, wherever it stands, and the ground is 1 at every threshold."""
+    for k, j, some in ((1, 1, 2), (7, 3, 6), (31, 5, 8), (57, 7, 6), (133, 11, 3), (993, 31, 2)):
+        code, runs = some_code(random, 2, k, 1, j)
+        every = [[int(i in ones) for i in range(j + 1)] for ones in itertools.combinations(range(j + 1), (j + 1) // 2)] \
+            if j < 6 else [ones_in_any_order(random, j, (j + 1) // 2) for _ in range(some)]
+        for at, values in enumerate(random.some(every, some)):
+            assert bits_explained(pages, random, code, runs, random.below(k), (0, 32, 1)[at % 3], values) == 1
+    # Every threshold.
+    for threshold in range(33):
+        assert bits_explained(pages, random, (2, 7, 1, ref.table_of([0, 1, 3])), [[0, 1, 3]], threshold % 7, threshold,
+                              [(1, 1, 0, 0), (0, 1, 0, 1)][threshold % 2]) == 1
+
+
+@group("bits, explanations, every threshold")
+def bits_explain_thresholds(pages, random):
+    """All estimates ones, all but one, and all zeros, with each threshold from 0 to 32, J = 8 and J = 7."""
+    for j, threshold in itertools.product((7, 8), range(33)):
+        code, runs = some_code(random, 2, 57, 1, j)
+        ones = (j + 1, j, 0)[threshold % 3]
+        lead = abs(2 * ones - (j + 1))
+        ground = bits_explained(pages, random, code, runs, random.below(57), threshold, ones_in_any_order(random, j, ones))
+        assert ground == (1 if lead <= threshold else 3 if ones else 2)
+
+
+@group("bits, explanations in every branch")
+def bits_explain_branches(pages, random):
+    """The first and the last symbol of each, then symbol numbers beyond them."""
+    for k, b, j in ((13, 1, 4), (13, 2, 3), (27, 4, 3), (17, 8, 2)):
+        code, runs = some_code(random, 2, k, b, j)
+        for at, (r, i) in enumerate(itertools.product(range(b), (0, k - 1))):
+            threshold, ones = ((j - 1, j), (j - 2, j), (j - 2, 1))[at % 3]
+            assert bits_explained(pages, random, code, runs, r * k + i, threshold, ones_in_any_order(random, j, ones)) == \
+                (1, 3, 2)[at % 3]
+        buffers = random_buffers(random, 2, k, b)
+        for symbol in (b * k, (b + 1) * k, 256, 65536, 2 ** 31, 2 ** 32 - 1):
+            pages.bits.explain(*code, 1, symbol, *buffers, expect=11)
+    # k = 1: each branch has one symbol, and all have the one check.
+    for s, d in itertools.product((0, 1), repeat=2):
+        got = pages.bits.explain(2, 1, 8, ref.table_of(*[[0]] * 8), 1, 5, [0] * 8, [s], [1 - d] * 5 + [d] + [1 - d] * 2,
+                                 expect=0)
+        assert got == ((2 + s, s, 2, 0, 3) if s == d else (1, 0, 1, 1, 2 - s))
+    code, _ = some_code(random, 2, 512, 8, 7)
+    pages.bits.explain(*code, 0, 4095, *random_buffers(random, 2, 512, 8), expect=0)
+
+
+@group("bits, explanations of opened pages")
+def bits_explain_opened(pages, random):
+    """A page is opened, bits are asked for, a pass is made, they are asked for again."""
+    grounds = []
+    for k, b, j, replaced, thresholds in (
+            (13, 1, 4, 2, [2, 0]), (31, 1, 6, 3, [2, 0]), (31, 1, 5, 9, [1]), (57, 1, 8, 4, [3]), (57, 1, 7, 12, [2, 0]),
+            (13, 2, 3, 1, [1, 0]), (40, 3, 4, 6, [0]), (17, 8, 2, 8, [0])):
+        code, runs = some_code(random, 2, k, b, j)
+        places = branch_places(k, b, replaced, random)
+        page = damaged(random, 2, ref.code_word(2, k, runs, random.symbols(2, b * k)), places)
+        buffers = pages.bits.open_page(*code, page, expect=0)
+        asked = [place for place in places[:2] if place < b * k] + [random.below(b * k)]
+        for threshold in thresholds:
+            grounds += [pages.bits.explain(*code, threshold, symbol, *buffers, expect=0).ground for symbol in asked]
+            buffers = pages.bits.pass_once(*code, threshold, *buffers, expect=0)[:3]
+        grounds += [pages.bits.explain(*code, thresholds[-1], symbol, *buffers, expect=0).ground for symbol in asked]
+    assert min(grounds.count(ground) for ground in (1, 2, 3)) >= 4
+
+
+@group("bits, refusals one by one")
+def bits_one_by_one(pages, random):
+    """Each refusal of each call, at the edges of what it tests; 1 has a group of its own, 11 stands with the branches."""
+    a, two, lent_for = ref.CODE_A, ref.table_of([0, 1, 4], [0, 2, 7]), (13, 1)
+    for k, b, table, number in ((0, 1, a, 2), (4097, 1, a, 2), (65549, 1, a, 2), (13, 0, a, 10), (13, 9, a, 10),
+                                (16, 2 ** 28 + 1, a, 10), (2049, 2, a, 10), (13, 1, b"", 3),
+                                (13, 1, ref.table_of(range(33)), 3), (13, 3, a, 3),
+                                (13, 1, ref.table_of([0, 1, 4, 13]), 4), (12, 1, a, 5)):
+        seven_calls(pages.bits, 2, k, b, table, lent_for, expect=number)
+
+    # 6: each buffer one symbol off, and one branch.
+    page, right = [0] * 39, ref.decode_lengths(13, 2)
+    for more in (-1, 1, -13, 13):
+        pages.bits.encode(2, 13, 2, two, [0] * (26 + more), page_len=39, expect=6)
+        pages.bits.encode(2, 13, 2, two, [0] * 26, page_len=39 + more, expect=6)
+        pages.bits.syndrome(2, 13, 2, two, [0] * (39 + more), expect=6)
+        pages.bits.syndrome(2, 13, 2, two, page, syndrome_len=13 + more, expect=6)
+        pages.bits.decode(2, 13, 2, two, [0] * (39 + more), [0], expect=6)
+        pages.bits.open_page(2, 13, 2, two, [0] * (39 + more), expect=6)
+        for at, length in enumerate(right):
+            lengths = right[:at] + (length + (4 * more if at == 3 else more),) + right[at + 1:]
+            pages.bits.decode(2, 13, 2, two, page, [0], lengths=lengths, expect=6)
+            if at < 3:
+                pages.bits.open_page(2, 13, 2, two, page, lengths[:3], expect=6)
+                buffers = resized([[0] * n for n in right[:3]], at, more)
+                pages.bits.pass_once(2, 13, 2, two, 0, *buffers, expect=6)
+                pages.bits.explain(2, 13, 2, two, 0, 0, *buffers, expect=6)
+
+    # 7: a byte of 2, 3, 128 and 255 at both ends of every input, of S and D too; with a 1 there it is none.
+    for symbol in (1, 2, 3, 128, 255):
+        number = 7 if symbol > 1 else 0
+        for place in (0, 25):
+            pages.bits.encode(2, 13, 2, two, ref.symbols(26, {place: symbol}), expect=number)
+        for place in (0, 25, 26, 38):
+            received = ref.symbols(39, {place: symbol})
+            pages.bits.syndrome(2, 13, 2, two, received, expect=number)
+            pages.bits.decode(2, 13, 2, two, received, [0], expect=number)
+            pages.bits.open_page(2, 13, 2, two, received, expect=number)
+        for buffer, place in itertools.product((RESULT, S, D), (0, -1)):
+            buffers = [[0] * n for n in right[:3]]
+            buffers[buffer][place] = symbol
+            pages.bits.pass_once(2, 13, 2, two, 32, *buffers, expect=number)
+            pages.bits.explain(2, 13, 2, two, 32, 15, *buffers, expect=number)
+
+    # 8 and 9.
+    for thresholds, number in (([], 8), ([0] * 65, 8), ([33] * 65, 8), ([33], 9), ([255], 9), ([0, 33], 9),
+                               ([0] * 63 + [33], 9), ([32] * 64, 0)):
+        pages.bits.decode(2, 13, 2, two, page, thresholds, expect=number)
+    clean = [[0] * n for n in right[:3]]
+    for threshold in (32, 33, 255, 256, 288, 65536, 2 ** 31, 2 ** 32 - 1):
+        number = 0 if threshold == 32 else 9
+        pages.bits.pass_once(2, 13, 2, two, threshold, *clean, expect=number)
+        pages.bits.explain(2, 13, 2, two, threshold, 25, *clean, expect=number)
+
+
+@group("bits, refusals with others")
+def bits_refused(pages, random):
+    """Each refusal with the one after it, 1 and 6 with each, and each with all that come after it."""
+    for call, add in ((CHECK_TABLE, pages.bits.check_table), (ENCODE, pages.bits.encode),
+                      (SYNDROME, pages.bits.syndrome), (DECODE, pages.bits.decode), (OPEN, pages.bits.open_page),
+                      (PASS, pages.bits.pass_once), (EXPLAIN, pages.bits.explain)):
+        numbers = REFUSALS[call]
+        sets = [met for met in itertools.combinations(numbers, 2)
+                if met[0] == 1 or 6 in met or numbers.index(met[1]) == numbers.index(met[0]) + 1]
+        refused_by_first(call, add, sets + with_all_after(call), bits)
+
+
+@group("bits in C alone", c_only=True)
+def bits_c_only(pages, random):
+    """Tables of an odd length, margins of no whole number, other lengths of the changes than 4 and of the answer than
+    24."""
+    odd = ref.CODE_A + b"\0"
+    for length in (1, 7, 9):
+        seven_calls(pages.bits, 2, 13, 1, odd[:length], expect=3)
+    seven_calls(pages.bits, 3, 13, 1, odd, expect=1)
+    seven_calls(pages.bits, 2, 13, 9, odd, (13, 1), expect=10)
+    for length in (1, 13, 49, 51, 53, 55):
+        pages.bits.decode(*bits.A, [0] * 26, [0], lengths=(13, 13, 13, length), expect=6)
+    for length in (0, 1, 3, 5, 8, 16):
+        pages.bits.pass_once(*bits.A, 0, *any_buffers(random, 2, 13, 1), changes_len=length, expect=6)
+    for length in (0, 4, 16, 20, 23, 25, 32):
+        pages.bits.explain(*bits.A, 0, 0, *any_buffers(random, 2, 13, 1), answer_len=length, expect=6)
+    # With something else amiss, before 6 or after it.
+    for met in [(number,) for number in REFUSALS[EXPLAIN]] + [(7, 9)]:
+        number = 6 if met[0] in (7, 9, 11) else met[0]
+        if 11 not in met:
+            _, arguments, _ = spoiled_branches(PASS, met, bits)
+            pages.bits.pass_once(*arguments, changes_len=3, expect=number)
+        _, arguments, _ = spoiled_branches(EXPLAIN, met, bits)
+        pages.bits.explain(*arguments, answer_len=23, expect=number)
+
+
 def make():
     ref.self_check()
+    bits.self_check()
     pages = Pages()
     for place, (name, c_only, add_pages) in enumerate(GROUPS, start=1):
         pages.open_group(name, c_only)

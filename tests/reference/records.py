@@ -3,17 +3,22 @@ this file has the format."""
 
 import struct
 
+import bits
 import reference as ref
 
 # The number of a call in the file; 0 opens a group.
 (OPEN_GROUP, CHECK_TABLE, ENCODE, SYNDROME, DECODE, OPEN, PASS, EXPLAIN, DECODE_COUNTERS, ENCODE_OUTER,
  DECODE_OUTER) = range(11)
 
+# The first seven on bit pages, in the same order, have the numbers after these.
+ON_BITS = DECODE_OUTER
+
 # The programs that run the pages, each with a file of its own, and the calls of each.
 PROGRAMS = {
     "reference": (CHECK_TABLE, ENCODE, SYNDROME, DECODE, OPEN, PASS, EXPLAIN),
     "reference_counters": (DECODE_COUNTERS,),
     "reference_outer": (ENCODE_OUTER, DECODE_OUTER),
+    "reference_bits": range(ON_BITS + CHECK_TABLE, ON_BITS + EXPLAIN + 1),
 }
 
 # What a record gives of a string's content.
@@ -90,10 +95,92 @@ class File:
                        for name, c_only, count in self.groups).encode()
 
 
-class Pages:
-    """Calls, each with its expected outcome, as a record in the file of the call's program."""
+class Calls:
+    """The first seven calls in one profile, each with its expected outcome by a module, `by`, as a record that goes to
+    `add`. In the file their numbers start after `after`."""
+
+    def __init__(self, by, after, add):
+        self.by, self.after, self.add = by, after, add
+
+    def _call(self, call, number, expect, numbers, table, strings):
+        assert expect in (None, number)
+        assert len(table) <= MOST_TABLE
+        call += self.after
+        self.add(call, record(call, number, numbers, [read(table), *strings]))
+
+    # A function for each call. `expect` is the number that it is known to return.
+
+    def check_table(self, q, k, b, table, expect=None):
+        number = self.by.check_table(q, k, b, table)
+        self._call(CHECK_TABLE, number, expect, [q, k, b], table, [])
+
+    def encode(self, q, k, b, table, data, page_len=None, expect=None):
+        page_len = (b + 1) * k if page_len is None else page_len
+        number, page = self.by.encode(q, k, b, table, data, page_len)
+        self._call(ENCODE, number, expect, [q, k, b], table, [read(data), lent(page_len, number, page)])
+
+    def syndrome(self, q, k, b, table, page, syndrome_len=None, expect=None):
+        syndrome_len = k if syndrome_len is None else syndrome_len
+        number, s = self.by.syndrome(q, k, b, table, page, syndrome_len)
+        self._call(SYNDROME, number, expect, [q, k, b], table, [read(page), lent(syndrome_len, number, s)])
+
+    def decode(self, q, k, b, table, page, thresholds, lengths=None, expect=None):
+        """`lengths` are those of result, syndrome, difference and margins. Returns what the decode gave. The C tests run
+        the page with counters too, but on bits."""
+        lengths = ref.decode_lengths(k, b) if lengths is None else lengths
+        number, got = self.by.decode(q, k, b, table, page, thresholds, *lengths)
+        if self.by is ref:
+            assert (number, got) == ref.decode_counters(q, k, b, table, page, thresholds, *lengths, counters=ref.ZEROED)
+        self._call(DECODE, number, expect, [q, k, b], table,
+                   [read(page), read(thresholds), *decode_answers(lengths, number, got)])
+        return got
+
+    def open_page(self, q, k, b, table, page, lengths=None, expect=None):
+        """`lengths` are those of result, syndrome and difference. Returns these three, None where it is refused."""
+        lengths = ref.buffer_lengths(k, b) if lengths is None else lengths
+        number, got = self.by.open_page(q, k, b, table, page, *lengths)
+        answers = [lent(length, number, content) for length, content in zip(lengths, got or [None] * 3)]
+        self._call(OPEN, number, expect, [q, k, b], table, [read(page), *answers])
+        return got
+
+    def pass_once(self, q, k, b, table, threshold, result, s, d, changes_len=4, expect=None):
+        """Returns result, syndrome and difference as the pass leaves them, and its changes; None where it is refused."""
+        number, got = self.by.pass_once(q, k, b, table, threshold, result, s, d, changes_len)
+        buffers = [held(before, after) for before, after in zip((result, s, d), got or (result, s, d))]
+        changes = lent(changes_len, number, struct.pack("<I", got.changes) if got else None)
+        self._call(PASS, number, expect, [q, k, b, threshold], table, [*buffers, changes])
+        return got
+
+    def explain(self, q, k, b, table, threshold, symbol, result, s, d, answer_len=24, expect=None):
+        """Returns the answer, None where it is refused."""
+        number, got = self.by.explain(q, k, b, table, threshold, symbol, result, s, d, answer_len)
+        answer = lent(answer_len, number, struct.pack("<4IQ", *got) if got else None)
+        self._call(EXPLAIN, number, expect, [q, k, b, threshold, symbol], table,
+                   [*map(read, (result, s, d)), answer])
+        return got
+
+    def every_call(self, q, k, b, table, expect=None):
+        """The first four calls, on symbols that are all 0."""
+        self.check_table(q, k, b, table, expect)
+        self.encode(q, k, b, table, [0] * (b * k), expect=expect)
+        self.syndrome(q, k, b, table, [0] * ((b + 1) * k), expect=expect)
+        self.decode(q, k, b, table, [0] * ((b + 1) * k), [0], expect=expect)
+
+    def open_and_pass(self, q, k, b, table, lent_for=None, expect=None):
+        """The next two, on symbols that are all 0, in buffers for this k and b or for another pair."""
+        other_k, other_b = lent_for or (k, b)
+        lengths = ref.buffer_lengths(other_k, other_b)
+        self.open_page(q, k, b, table, [0] * ((other_b + 1) * other_k), lengths, expect)
+        self.pass_once(q, k, b, table, 0, *([0] * length for length in lengths), expect=expect)
+
+
+class Pages(Calls):
+    """Calls, each with its expected outcome, as a record in the file of the call's program; `bits` has those on bit
+    pages."""
 
     def __init__(self):
+        super().__init__(ref, OPEN_GROUP, self._add)
+        self.bits = Calls(bits, ON_BITS, self._add)
         self.files = {program: File() for program in PROGRAMS}
         self.file_of = {call: self.files[program] for program, calls in PROGRAMS.items() for call in calls}
 
@@ -104,36 +191,8 @@ class Pages:
     def count(self):
         return sum(file.count() for file in self.files.values())
 
-    def _call(self, call, number, expect, numbers, table, strings):
-        assert expect in (None, number)
-        assert len(table) <= MOST_TABLE
-        self.file_of[call].add(self.name, self.c_only, record(call, number, numbers, [read(table), *strings]))
-
-    # A function for each call. `expect` is the number that it is known to return.
-
-    def check_table(self, q, k, b, table, expect=None):
-        number = ref.check_table(q, k, b, table)
-        self._call(CHECK_TABLE, number, expect, [q, k, b], table, [])
-
-    def encode(self, q, k, b, table, data, page_len=None, expect=None):
-        page_len = (b + 1) * k if page_len is None else page_len
-        number, page = ref.encode(q, k, b, table, data, page_len)
-        self._call(ENCODE, number, expect, [q, k, b], table, [read(data), lent(page_len, number, page)])
-
-    def syndrome(self, q, k, b, table, page, syndrome_len=None, expect=None):
-        syndrome_len = k if syndrome_len is None else syndrome_len
-        number, s = ref.syndrome(q, k, b, table, page, syndrome_len)
-        self._call(SYNDROME, number, expect, [q, k, b], table, [read(page), lent(syndrome_len, number, s)])
-
-    def decode(self, q, k, b, table, page, thresholds, lengths=None, expect=None):
-        """`lengths` are those of result, syndrome, difference and margins. Returns what the decode gave. The C tests run
-        the page with counters too."""
-        lengths = ref.decode_lengths(k, b) if lengths is None else lengths
-        number, got = ref.decode(q, k, b, table, page, thresholds, *lengths)
-        assert (number, got) == ref.decode_counters(q, k, b, table, page, thresholds, *lengths, counters=ref.ZEROED)
-        self._call(DECODE, number, expect, [q, k, b], table,
-                   [read(page), read(thresholds), *decode_answers(lengths, number, got)])
-        return got
+    def _add(self, call, page):
+        self.file_of[call].add(self.name, self.c_only, page)
 
     def decode_counters(self, q, k, b, table, page, thresholds, lengths=None, counters=ref.ZEROED, expect=None):
         """The counters stand before the counts, and hold after the call what they held before it."""
@@ -163,41 +222,3 @@ class Pages:
         self._call(DECODE_OUTER, number, expect, [q, k, b, length], table,
                    [read(page), read(thresholds), *decode_answers(lengths, number, got)])
         return got
-
-    def open_page(self, q, k, b, table, page, lengths=None, expect=None):
-        """`lengths` are those of result, syndrome and difference. Returns these three, None where it is refused."""
-        lengths = ref.buffer_lengths(k, b) if lengths is None else lengths
-        number, got = ref.open_page(q, k, b, table, page, *lengths)
-        answers = [lent(length, number, content) for length, content in zip(lengths, got or [None] * 3)]
-        self._call(OPEN, number, expect, [q, k, b], table, [read(page), *answers])
-        return got
-
-    def pass_once(self, q, k, b, table, threshold, result, s, d, changes_len=4, expect=None):
-        """Returns result, syndrome and difference as the pass leaves them, and its changes; None where it is refused."""
-        number, got = ref.pass_once(q, k, b, table, threshold, result, s, d, changes_len)
-        buffers = [held(before, after) for before, after in zip((result, s, d), got or (result, s, d))]
-        changes = lent(changes_len, number, struct.pack("<I", got.changes) if got else None)
-        self._call(PASS, number, expect, [q, k, b, threshold], table, [*buffers, changes])
-        return got
-
-    def explain(self, q, k, b, table, threshold, symbol, result, s, d, answer_len=24, expect=None):
-        """Returns the answer, None where it is refused."""
-        number, got = ref.explain(q, k, b, table, threshold, symbol, result, s, d, answer_len)
-        answer = lent(answer_len, number, struct.pack("<4IQ", *got) if got else None)
-        self._call(EXPLAIN, number, expect, [q, k, b, threshold, symbol], table,
-                   [*map(read, (result, s, d)), answer])
-        return got
-
-    def every_call(self, q, k, b, table, expect=None):
-        """The first four calls, on symbols that are all 0."""
-        self.check_table(q, k, b, table, expect)
-        self.encode(q, k, b, table, [0] * (b * k), expect=expect)
-        self.syndrome(q, k, b, table, [0] * ((b + 1) * k), expect=expect)
-        self.decode(q, k, b, table, [0] * ((b + 1) * k), [0], expect=expect)
-
-    def open_and_pass(self, q, k, b, table, lent_for=None, expect=None):
-        """The next two, on symbols that are all 0, in buffers for this k and b or for another pair."""
-        other_k, other_b = lent_for or (k, b)
-        lengths = ref.buffer_lengths(other_k, other_b)
-        self.open_page(q, k, b, table, [0] * ((other_b + 1) * other_k), lengths, expect)
-        self.pass_once(q, k, b, table, 0, *([0] * length for length in lengths), expect=expect)

@@ -393,29 +393,29 @@ def outer_step(q, k, runs, block, result, s, d):
     return step
 
 
-# The calls
+# The calls. Each makes the tests of its name; bits.py gives those that it has other ones.
 
-def check_table(q, k, b, table):
-    return first_that_applies(table_tests(q, k, b, table))
+def check_table(q, k, b, table, tests=table_tests):
+    return first_that_applies(tests(q, k, b, table))
 
 
-def encode(q, k, b, table, data, page_len):
-    number = first_that_applies(encode_tests(q, k, b, table, data, page_len))
+def encode(q, k, b, table, data, page_len, tests=encode_tests):
+    number = first_that_applies(tests(q, k, b, table, data, page_len))
     if number:
         return number, None
     return 0, code_word(q, k, runs_of(b, table), data)
 
 
-def syndrome(q, k, b, table, page, syndrome_len):
-    number = first_that_applies(syndrome_tests(q, k, b, table, page, syndrome_len))
+def syndrome(q, k, b, table, page, syndrome_len, tests=syndrome_tests):
+    number = first_that_applies(tests(q, k, b, table, page, syndrome_len))
     if number:
         return number, None
     return 0, syndrome_of(q, k, runs_of(b, table), page)
 
 
-def decode(q, k, b, table, page, thresholds, *lengths):
+def decode(q, k, b, table, page, thresholds, *lengths, tests=decode_tests):
     """`lengths` are those of result, syndrome, difference and margins."""
-    number = first_that_applies(decode_tests(q, k, b, table, page, thresholds, *lengths))
+    number = first_that_applies(tests(q, k, b, table, page, thresholds, *lengths))
     if number:
         return number, None
     runs = runs_of(b, table)
@@ -515,9 +515,9 @@ def decode_outer(q, k, b, table, length, page, thresholds, *lengths):
     return 0, OuterDecoded(result, s, d, margins, counts, places, changes_of_pass, steps)
 
 
-def open_page(q, k, b, table, page, *lengths):
+def open_page(q, k, b, table, page, *lengths, tests=open_tests):
     """`lengths` are those of result, syndrome and difference."""
-    number = first_that_applies(open_tests(q, k, b, table, page, *lengths))
+    number = first_that_applies(tests(q, k, b, table, page, *lengths))
     if number:
         return number, None
     runs = runs_of(b, table)
@@ -526,9 +526,9 @@ def open_page(q, k, b, table, page, *lengths):
     return 0, got
 
 
-def pass_once(q, k, b, table, threshold, result, s, d, changes_len=4):
+def pass_once(q, k, b, table, threshold, result, s, d, changes_len=4, tests=pass_tests):
     """Returns what the pass leaves in result, syndrome and difference; those given are left as they are."""
-    number = first_that_applies(pass_tests(q, k, b, table, threshold, result, s, d, changes_len))
+    number = first_that_applies(tests(q, k, b, table, threshold, result, s, d, changes_len))
     if number:
         return number, None
     runs = runs_of(b, table)
@@ -545,8 +545,8 @@ def pass_once(q, k, b, table, threshold, result, s, d, changes_len=4):
     return 0, got
 
 
-def explain(q, k, b, table, threshold, symbol, result, s, d, answer_len=24):
-    number = first_that_applies(explain_tests(q, k, b, table, threshold, symbol, result, s, d, answer_len))
+def explain(q, k, b, table, threshold, symbol, result, s, d, answer_len=24, tests=explain_tests):
+    number = first_that_applies(tests(q, k, b, table, threshold, symbol, result, s, d, answer_len))
     if number:
         return number, None
     runs = runs_of(b, table)
