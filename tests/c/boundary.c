@@ -4,8 +4,10 @@
  * ones between them, symbols of such a page explained, each pass against the grounds of the symbols that it came to
  * first, every place of the counters and many lengths, decodes with counters against the same without, block lengths of
  * every size, encodes and decodes with an outer check against their definition, and the promise that data comes back
- * from a page with few enough symbols replaced. */
+ * from a page with few enough symbols replaced. Nearly all of it on bit pages too, and there every value of a byte and
+ * many of q. */
 #include "qmtd.h"
+#include "qmtd_bits.h"
 
 #include <stdio.h>
 #include <stdlib.h>
@@ -20,6 +22,27 @@ static int failures;
             failures++;                                                      \
         }                                                                    \
     } while (0)
+
+/* The seven calls that bit pages have too, in both profiles; a q of each, the largest one and one that is refused, and
+ * the symbol that is received in place of 0 on the pages below. */
+#define CODE uint32_t, uint32_t, uint32_t, const uint8_t *, uint64_t
+#define READ const uint8_t *, uint64_t
+#define LENT uint8_t *, uint64_t
+static const struct profile {
+    uint32_t q, most_q, other_q;
+    uint8_t symbol;
+    uint32_t (*check_table)(CODE);
+    uint32_t (*encode)(CODE, READ, LENT);
+    uint32_t (*syndrome)(CODE, READ, LENT);
+    uint32_t (*decode)(CODE, READ, READ, LENT, LENT, LENT, LENT, LENT);
+    uint32_t (*open)(CODE, READ, LENT, LENT, LENT);
+    uint32_t (*pass)(CODE, uint32_t, LENT, LENT, LENT, LENT);
+    uint32_t (*explain)(CODE, uint32_t, uint32_t, READ, READ, READ, LENT);
+} byte_pages = {5, QMTD_MAX_Q, 2, 7, qmtd_check_table, qmtd_encode, qmtd_syndrome, qmtd_decode, qmtd_open, qmtd_pass,
+                qmtd_explain},
+  bit_pages = {2, 2, 3, 1, qmtd_bits_check_table, qmtd_bits_encode, qmtd_bits_syndrome, qmtd_bits_decode,
+               qmtd_bits_open, qmtd_bits_pass, qmtd_bits_explain},
+  *on = &byte_pages; /* the profile of the calls below */
 
 /* Code A of document 01. */
 enum { K = 13, J = 4 };
@@ -80,16 +103,16 @@ static int answers_untouched(void)
            all(answer, sizeof answer, 0xEE);
 }
 
-/* A decode of code A at q = 5 with the given table, page, thresholds and length of the counts. */
+/* A decode of code A at q = 5, or of bits, with the given table, page, thresholds and length of the counts. */
 static uint32_t decode(const uint8_t *table, size_t table_len, size_t page_len,
                        const uint8_t *list, size_t list_len, size_t counts_len)
 {
-    return qmtd_decode(5, K, 1, table, table_len, page, page_len, list, list_len, result, sizeof result,
-                       syndrome, sizeof syndrome, difference, sizeof difference, margins, sizeof margins,
-                       counts, counts_len);
+    return on->decode(on->q, K, 1, table, table_len, page, page_len, list, list_len, result, sizeof result,
+                      syndrome, sizeof syndrome, difference, sizeof difference, margins, sizeof margins,
+                      counts, counts_len);
 }
 
-/* The same with counters. */
+/* The same at q = 5 with counters. */
 static uint32_t decode_counters(const uint8_t *table, size_t table_len, size_t page_len, const uint8_t *list,
                                 size_t list_len, uint8_t *lent, size_t lent_len, size_t counts_len)
 {
@@ -119,42 +142,42 @@ static void null_with_length_0(void)
     const size_t n = sizeof table_a;
     prepare();
 
-    EXPECT(qmtd_check_table(5, K, 1, NULL, 0) == QMTD_BAD_J);
+    EXPECT(on->check_table(on->q, K, 1, NULL, 0) == QMTD_BAD_J);
 
-    EXPECT(qmtd_encode(5, K, 1, NULL, 0, data, K, page, 2 * K) == QMTD_BAD_J);
-    EXPECT(qmtd_encode(5, K, 1, t, n, NULL, 0, page, 2 * K) == QMTD_BAD_LENGTH);
-    EXPECT(qmtd_encode(5, K, 1, t, n, data, K, NULL, 0) == QMTD_BAD_LENGTH);
-    EXPECT(qmtd_encode(5, K, 1, t, n, NULL, 0, NULL, 0) == QMTD_BAD_LENGTH);
-    EXPECT(qmtd_encode(5, 0, 1, t, n, NULL, 0, NULL, 0) == QMTD_BAD_K);
-    EXPECT(qmtd_encode(0, 0, 1, NULL, 0, NULL, 0, NULL, 0) == QMTD_BAD_Q);
+    EXPECT(on->encode(on->q, K, 1, NULL, 0, data, K, page, 2 * K) == QMTD_BAD_J);
+    EXPECT(on->encode(on->q, K, 1, t, n, NULL, 0, page, 2 * K) == QMTD_BAD_LENGTH);
+    EXPECT(on->encode(on->q, K, 1, t, n, data, K, NULL, 0) == QMTD_BAD_LENGTH);
+    EXPECT(on->encode(on->q, K, 1, t, n, NULL, 0, NULL, 0) == QMTD_BAD_LENGTH);
+    EXPECT(on->encode(on->q, 0, 1, t, n, NULL, 0, NULL, 0) == QMTD_BAD_K);
+    EXPECT(on->encode(0, 0, 1, NULL, 0, NULL, 0, NULL, 0) == QMTD_BAD_Q);
 
-    EXPECT(qmtd_syndrome(5, K, 1, NULL, 0, page, 2 * K, syndrome, K) == QMTD_BAD_J);
-    EXPECT(qmtd_syndrome(5, K, 1, t, n, NULL, 0, syndrome, K) == QMTD_BAD_LENGTH);
-    EXPECT(qmtd_syndrome(5, K, 1, t, n, page, 2 * K, NULL, 0) == QMTD_BAD_LENGTH);
-    EXPECT(qmtd_syndrome(5, K, 1, t, n, NULL, 0, NULL, 0) == QMTD_BAD_LENGTH);
-    EXPECT(qmtd_syndrome(5, 0, 1, t, n, NULL, 0, NULL, 0) == QMTD_BAD_K);
-    EXPECT(qmtd_syndrome(0, 0, 1, NULL, 0, NULL, 0, NULL, 0) == QMTD_BAD_Q);
+    EXPECT(on->syndrome(on->q, K, 1, NULL, 0, page, 2 * K, syndrome, K) == QMTD_BAD_J);
+    EXPECT(on->syndrome(on->q, K, 1, t, n, NULL, 0, syndrome, K) == QMTD_BAD_LENGTH);
+    EXPECT(on->syndrome(on->q, K, 1, t, n, page, 2 * K, NULL, 0) == QMTD_BAD_LENGTH);
+    EXPECT(on->syndrome(on->q, K, 1, t, n, NULL, 0, NULL, 0) == QMTD_BAD_LENGTH);
+    EXPECT(on->syndrome(on->q, 0, 1, t, n, NULL, 0, NULL, 0) == QMTD_BAD_K);
+    EXPECT(on->syndrome(0, 0, 1, NULL, 0, NULL, 0, NULL, 0) == QMTD_BAD_Q);
 
-    EXPECT(qmtd_decode(5, K, 1, NULL, 0, page, 2 * K, thresholds, 2, result, K, syndrome, K, difference, K,
-                       margins, 4 * K, counts, 16) == QMTD_BAD_J);
-    EXPECT(qmtd_decode(5, K, 1, t, n, NULL, 0, thresholds, 2, result, K, syndrome, K, difference, K, margins, 4 * K,
-                       counts, 16) == QMTD_BAD_LENGTH);
-    EXPECT(qmtd_decode(5, K, 1, t, n, page, 2 * K, NULL, 0, result, K, syndrome, K, difference, K, margins, 4 * K,
-                       counts, 16) == QMTD_BAD_THRESHOLD_COUNT);
-    EXPECT(qmtd_decode(5, K, 1, t, n, page, 2 * K, thresholds, 2, NULL, 0, syndrome, K, difference, K, margins, 4 * K,
-                       counts, 16) == QMTD_BAD_LENGTH);
-    EXPECT(qmtd_decode(5, K, 1, t, n, page, 2 * K, thresholds, 2, result, K, NULL, 0, difference, K, margins, 4 * K,
-                       counts, 16) == QMTD_BAD_LENGTH);
-    EXPECT(qmtd_decode(5, K, 1, t, n, page, 2 * K, thresholds, 2, result, K, syndrome, K, NULL, 0, margins, 4 * K,
-                       counts, 16) == QMTD_BAD_LENGTH);
-    EXPECT(qmtd_decode(5, K, 1, t, n, page, 2 * K, thresholds, 2, result, K, syndrome, K, difference, K, NULL, 0,
-                       counts, 16) == QMTD_BAD_LENGTH);
-    EXPECT(qmtd_decode(5, K, 1, t, n, page, 2 * K, thresholds, 2, result, K, syndrome, K, difference, K, margins, 4 * K,
-                       NULL, 0) == QMTD_BAD_LENGTH);
-    EXPECT(qmtd_decode(5, K, 1, t, n, NULL, 0, NULL, 0, NULL, 0, NULL, 0, NULL, 0, NULL, 0, NULL, 0) ==
+    EXPECT(on->decode(on->q, K, 1, NULL, 0, page, 2 * K, thresholds, 2, result, K, syndrome, K, difference, K,
+                      margins, 4 * K, counts, 16) == QMTD_BAD_J);
+    EXPECT(on->decode(on->q, K, 1, t, n, NULL, 0, thresholds, 2, result, K, syndrome, K, difference, K, margins, 4 * K,
+                      counts, 16) == QMTD_BAD_LENGTH);
+    EXPECT(on->decode(on->q, K, 1, t, n, page, 2 * K, NULL, 0, result, K, syndrome, K, difference, K, margins, 4 * K,
+                      counts, 16) == QMTD_BAD_THRESHOLD_COUNT);
+    EXPECT(on->decode(on->q, K, 1, t, n, page, 2 * K, thresholds, 2, NULL, 0, syndrome, K, difference, K,
+                      margins, 4 * K, counts, 16) == QMTD_BAD_LENGTH);
+    EXPECT(on->decode(on->q, K, 1, t, n, page, 2 * K, thresholds, 2, result, K, NULL, 0, difference, K, margins, 4 * K,
+                      counts, 16) == QMTD_BAD_LENGTH);
+    EXPECT(on->decode(on->q, K, 1, t, n, page, 2 * K, thresholds, 2, result, K, syndrome, K, NULL, 0, margins, 4 * K,
+                      counts, 16) == QMTD_BAD_LENGTH);
+    EXPECT(on->decode(on->q, K, 1, t, n, page, 2 * K, thresholds, 2, result, K, syndrome, K, difference, K, NULL, 0,
+                      counts, 16) == QMTD_BAD_LENGTH);
+    EXPECT(on->decode(on->q, K, 1, t, n, page, 2 * K, thresholds, 2, result, K, syndrome, K, difference, K,
+                      margins, 4 * K, NULL, 0) == QMTD_BAD_LENGTH);
+    EXPECT(on->decode(on->q, K, 1, t, n, NULL, 0, NULL, 0, NULL, 0, NULL, 0, NULL, 0, NULL, 0, NULL, 0) ==
            QMTD_BAD_LENGTH);
-    EXPECT(qmtd_decode(5, 0, 1, t, n, NULL, 0, NULL, 0, NULL, 0, NULL, 0, NULL, 0, NULL, 0, NULL, 0) == QMTD_BAD_K);
-    EXPECT(qmtd_decode(0, 0, 1, NULL, 0, NULL, 0, NULL, 0, NULL, 0, NULL, 0, NULL, 0, NULL, 0, NULL, 0) == QMTD_BAD_Q);
+    EXPECT(on->decode(on->q, 0, 1, t, n, NULL, 0, NULL, 0, NULL, 0, NULL, 0, NULL, 0, NULL, 0, NULL, 0) == QMTD_BAD_K);
+    EXPECT(on->decode(0, 0, 1, NULL, 0, NULL, 0, NULL, 0, NULL, 0, NULL, 0, NULL, 0, NULL, 0, NULL, 0) == QMTD_BAD_Q);
 
     EXPECT(answers_untouched() && all(page, sizeof page, 0));
 }
@@ -165,23 +188,23 @@ static void null_in_open_and_pass(void)
     const size_t n = sizeof table_a;
     prepare();
 
-    EXPECT(qmtd_open(5, K, 1, NULL, 0, page, 2 * K, result, K, syndrome, K, difference, K) == QMTD_BAD_J);
-    EXPECT(qmtd_open(5, K, 1, t, n, NULL, 0, result, K, syndrome, K, difference, K) == QMTD_BAD_LENGTH);
-    EXPECT(qmtd_open(5, K, 1, t, n, page, 2 * K, NULL, 0, syndrome, K, difference, K) == QMTD_BAD_LENGTH);
-    EXPECT(qmtd_open(5, K, 1, t, n, page, 2 * K, result, K, NULL, 0, difference, K) == QMTD_BAD_LENGTH);
-    EXPECT(qmtd_open(5, K, 1, t, n, page, 2 * K, result, K, syndrome, K, NULL, 0) == QMTD_BAD_LENGTH);
-    EXPECT(qmtd_open(5, K, 1, t, n, NULL, 0, NULL, 0, NULL, 0, NULL, 0) == QMTD_BAD_LENGTH);
-    EXPECT(qmtd_open(5, 0, 1, t, n, NULL, 0, NULL, 0, NULL, 0, NULL, 0) == QMTD_BAD_K);
-    EXPECT(qmtd_open(0, 0, 1, NULL, 0, NULL, 0, NULL, 0, NULL, 0, NULL, 0) == QMTD_BAD_Q);
+    EXPECT(on->open(on->q, K, 1, NULL, 0, page, 2 * K, result, K, syndrome, K, difference, K) == QMTD_BAD_J);
+    EXPECT(on->open(on->q, K, 1, t, n, NULL, 0, result, K, syndrome, K, difference, K) == QMTD_BAD_LENGTH);
+    EXPECT(on->open(on->q, K, 1, t, n, page, 2 * K, NULL, 0, syndrome, K, difference, K) == QMTD_BAD_LENGTH);
+    EXPECT(on->open(on->q, K, 1, t, n, page, 2 * K, result, K, NULL, 0, difference, K) == QMTD_BAD_LENGTH);
+    EXPECT(on->open(on->q, K, 1, t, n, page, 2 * K, result, K, syndrome, K, NULL, 0) == QMTD_BAD_LENGTH);
+    EXPECT(on->open(on->q, K, 1, t, n, NULL, 0, NULL, 0, NULL, 0, NULL, 0) == QMTD_BAD_LENGTH);
+    EXPECT(on->open(on->q, 0, 1, t, n, NULL, 0, NULL, 0, NULL, 0, NULL, 0) == QMTD_BAD_K);
+    EXPECT(on->open(0, 0, 1, NULL, 0, NULL, 0, NULL, 0, NULL, 0, NULL, 0) == QMTD_BAD_Q);
 
-    EXPECT(qmtd_pass(5, K, 1, NULL, 0, 0, result, K, syndrome, K, difference, K, changes, 4) == QMTD_BAD_J);
-    EXPECT(qmtd_pass(5, K, 1, t, n, 0, NULL, 0, syndrome, K, difference, K, changes, 4) == QMTD_BAD_LENGTH);
-    EXPECT(qmtd_pass(5, K, 1, t, n, 0, result, K, NULL, 0, difference, K, changes, 4) == QMTD_BAD_LENGTH);
-    EXPECT(qmtd_pass(5, K, 1, t, n, 0, result, K, syndrome, K, NULL, 0, changes, 4) == QMTD_BAD_LENGTH);
-    EXPECT(qmtd_pass(5, K, 1, t, n, 0, result, K, syndrome, K, difference, K, NULL, 0) == QMTD_BAD_LENGTH);
-    EXPECT(qmtd_pass(5, K, 1, t, n, 0, NULL, 0, NULL, 0, NULL, 0, NULL, 0) == QMTD_BAD_LENGTH);
-    EXPECT(qmtd_pass(5, 0, 1, t, n, 0, NULL, 0, NULL, 0, NULL, 0, NULL, 0) == QMTD_BAD_K);
-    EXPECT(qmtd_pass(0, 0, 1, NULL, 0, 33, NULL, 0, NULL, 0, NULL, 0, NULL, 0) == QMTD_BAD_Q);
+    EXPECT(on->pass(on->q, K, 1, NULL, 0, 0, result, K, syndrome, K, difference, K, changes, 4) == QMTD_BAD_J);
+    EXPECT(on->pass(on->q, K, 1, t, n, 0, NULL, 0, syndrome, K, difference, K, changes, 4) == QMTD_BAD_LENGTH);
+    EXPECT(on->pass(on->q, K, 1, t, n, 0, result, K, NULL, 0, difference, K, changes, 4) == QMTD_BAD_LENGTH);
+    EXPECT(on->pass(on->q, K, 1, t, n, 0, result, K, syndrome, K, NULL, 0, changes, 4) == QMTD_BAD_LENGTH);
+    EXPECT(on->pass(on->q, K, 1, t, n, 0, result, K, syndrome, K, difference, K, NULL, 0) == QMTD_BAD_LENGTH);
+    EXPECT(on->pass(on->q, K, 1, t, n, 0, NULL, 0, NULL, 0, NULL, 0, NULL, 0) == QMTD_BAD_LENGTH);
+    EXPECT(on->pass(on->q, 0, 1, t, n, 0, NULL, 0, NULL, 0, NULL, 0, NULL, 0) == QMTD_BAD_K);
+    EXPECT(on->pass(0, 0, 1, NULL, 0, 33, NULL, 0, NULL, 0, NULL, 0, NULL, 0) == QMTD_BAD_Q);
 
     EXPECT(answers_untouched() && all(page, sizeof page, 0));
 }
@@ -192,14 +215,14 @@ static void null_in_explain(void)
     const size_t n = sizeof table_a;
     prepare();
 
-    EXPECT(qmtd_explain(5, K, 1, NULL, 0, 0, 0, result, K, syndrome, K, difference, K, answer, 24) == QMTD_BAD_J);
-    EXPECT(qmtd_explain(5, K, 1, t, n, 0, 0, NULL, 0, syndrome, K, difference, K, answer, 24) == QMTD_BAD_LENGTH);
-    EXPECT(qmtd_explain(5, K, 1, t, n, 0, 0, result, K, NULL, 0, difference, K, answer, 24) == QMTD_BAD_LENGTH);
-    EXPECT(qmtd_explain(5, K, 1, t, n, 0, 0, result, K, syndrome, K, NULL, 0, answer, 24) == QMTD_BAD_LENGTH);
-    EXPECT(qmtd_explain(5, K, 1, t, n, 0, 0, result, K, syndrome, K, difference, K, NULL, 0) == QMTD_BAD_LENGTH);
-    EXPECT(qmtd_explain(5, K, 1, t, n, 33, K, NULL, 0, NULL, 0, NULL, 0, NULL, 0) == QMTD_BAD_LENGTH);
-    EXPECT(qmtd_explain(5, 0, 1, t, n, 33, K, NULL, 0, NULL, 0, NULL, 0, NULL, 0) == QMTD_BAD_K);
-    EXPECT(qmtd_explain(0, 0, 1, NULL, 0, 33, K, NULL, 0, NULL, 0, NULL, 0, NULL, 0) == QMTD_BAD_Q);
+    EXPECT(on->explain(on->q, K, 1, NULL, 0, 0, 0, result, K, syndrome, K, difference, K, answer, 24) == QMTD_BAD_J);
+    EXPECT(on->explain(on->q, K, 1, t, n, 0, 0, NULL, 0, syndrome, K, difference, K, answer, 24) == QMTD_BAD_LENGTH);
+    EXPECT(on->explain(on->q, K, 1, t, n, 0, 0, result, K, NULL, 0, difference, K, answer, 24) == QMTD_BAD_LENGTH);
+    EXPECT(on->explain(on->q, K, 1, t, n, 0, 0, result, K, syndrome, K, NULL, 0, answer, 24) == QMTD_BAD_LENGTH);
+    EXPECT(on->explain(on->q, K, 1, t, n, 0, 0, result, K, syndrome, K, difference, K, NULL, 0) == QMTD_BAD_LENGTH);
+    EXPECT(on->explain(on->q, K, 1, t, n, 33, K, NULL, 0, NULL, 0, NULL, 0, NULL, 0) == QMTD_BAD_LENGTH);
+    EXPECT(on->explain(on->q, 0, 1, t, n, 33, K, NULL, 0, NULL, 0, NULL, 0, NULL, 0) == QMTD_BAD_K);
+    EXPECT(on->explain(0, 0, 1, NULL, 0, 33, K, NULL, 0, NULL, 0, NULL, 0, NULL, 0) == QMTD_BAD_Q);
 
     EXPECT(answers_untouched() && all(page, sizeof page, 0));
 }
@@ -291,10 +314,12 @@ static void counts_length(void)
             abort();
         memset(block, 0xEE, len + 1);
         prepare();
-        EXPECT(qmtd_decode(5, K, 1, table_a, sizeof table_a, page, sizeof page, thresholds, 2, result, K, syndrome, K,
-                           difference, K, margins, sizeof margins, block, len) == QMTD_BAD_LENGTH);
-        EXPECT(qmtd_decode_outer(5, K, 1, table_a, sizeof table_a, K, page, sizeof page, thresholds, 2, result, K,
-                                 syndrome, K, difference, K, margins, sizeof margins, block, len) == QMTD_BAD_LENGTH);
+        EXPECT(on->decode(on->q, K, 1, table_a, sizeof table_a, page, sizeof page, thresholds, 2, result, K,
+                          syndrome, K, difference, K, margins, sizeof margins, block, len) == QMTD_BAD_LENGTH);
+        if (on == &byte_pages)
+            EXPECT(qmtd_decode_outer(5, K, 1, table_a, sizeof table_a, K, page, sizeof page, thresholds, 2, result, K,
+                                     syndrome, K, difference, K, margins, sizeof margins, block, len) ==
+                   QMTD_BAD_LENGTH);
         EXPECT(all(block, len + 1, 0xEE));
         free(block);
     }
@@ -304,8 +329,8 @@ static void counts_length(void)
     EXPECT(decode(table_a, sizeof table_a, sizeof page, list, 0, 15) == QMTD_BAD_LENGTH);
     EXPECT(decode(table_a, sizeof table_a, sizeof page, list, 65, 15) == QMTD_BAD_LENGTH);
     EXPECT(decode(table_a, sizeof table_a, sizeof page, list, 1, 15) == QMTD_BAD_LENGTH);
-    EXPECT(qmtd_decode(5, K, 1, table_a, sizeof table_a, page, sizeof page, thresholds, 2, result, K, syndrome, K,
-                       difference, K, margins, sizeof margins - 1, counts, 15) == QMTD_BAD_LENGTH);
+    EXPECT(on->decode(on->q, K, 1, table_a, sizeof table_a, page, sizeof page, thresholds, 2, result, K, syndrome, K,
+                      difference, K, margins, sizeof margins - 1, counts, 15) == QMTD_BAD_LENGTH);
     page[3] = 5;
     EXPECT(decode(table_a, sizeof table_a, sizeof page, thresholds, 2, 15) == QMTD_BAD_LENGTH);
     EXPECT(decode(table_a, sizeof table_a, sizeof page, thresholds, 2, 16) == QMTD_BAD_SYMBOL);
@@ -415,19 +440,19 @@ static void odd_table(void)
     static const uint8_t long_table[67] = {0};
     prepare();
     for (size_t len = 1; len < sizeof long_table; len += 2) {
-        EXPECT(qmtd_check_table(5, K, 1, long_table, len) == QMTD_BAD_J);
+        EXPECT(on->check_table(on->q, K, 1, long_table, len) == QMTD_BAD_J);
         EXPECT(decode(long_table, len, sizeof page, thresholds, 2, sizeof counts) == QMTD_BAD_J);
     }
-    EXPECT(qmtd_check_table(QMTD_MIN_Q - 1, K, 1, table_a, 7) == QMTD_BAD_Q);
-    EXPECT(qmtd_check_table(5, QMTD_MAX_K + 1, 1, table_a, 7) == QMTD_BAD_K);
-    EXPECT(qmtd_encode(5, K, 1, table_a, 7, data, 0, page, 0) == QMTD_BAD_J);
-    EXPECT(qmtd_syndrome(5, K, 1, table_a, 7, page, 0, syndrome, 0) == QMTD_BAD_J);
+    EXPECT(on->check_table(on->other_q, K, 1, table_a, 7) == QMTD_BAD_Q);
+    EXPECT(on->check_table(on->q, QMTD_MAX_K + 1, 1, table_a, 7) == QMTD_BAD_K);
+    EXPECT(on->encode(on->q, K, 1, table_a, 7, data, 0, page, 0) == QMTD_BAD_J);
+    EXPECT(on->syndrome(on->q, K, 1, table_a, 7, page, 0, syndrome, 0) == QMTD_BAD_J);
     EXPECT(decode_counters(table_a, 7, 0, thresholds, 0, counters, 0, 0) == QMTD_BAD_J);
     EXPECT(qmtd_encode_outer(5, K, 1, table_a, 7, 0, data, 0, page, 0) == QMTD_BAD_J);
     EXPECT(decode_outer(table_a, 7, 0, 0, thresholds, 0, 0) == QMTD_BAD_J);
-    EXPECT(qmtd_open(5, K, 1, table_a, 7, page, 0, result, 0, syndrome, 0, difference, 0) == QMTD_BAD_J);
-    EXPECT(qmtd_pass(5, K, 1, table_a, 7, 33, result, 0, syndrome, 0, difference, 0, changes, 0) == QMTD_BAD_J);
-    EXPECT(qmtd_explain(5, K, 1, table_a, 7, 33, K, result, 0, syndrome, 0, difference, 0, answer, 0) == QMTD_BAD_J);
+    EXPECT(on->open(on->q, K, 1, table_a, 7, page, 0, result, 0, syndrome, 0, difference, 0) == QMTD_BAD_J);
+    EXPECT(on->pass(on->q, K, 1, table_a, 7, 33, result, 0, syndrome, 0, difference, 0, changes, 0) == QMTD_BAD_J);
+    EXPECT(on->explain(on->q, K, 1, table_a, 7, 33, K, result, 0, syndrome, 0, difference, 0, answer, 0) == QMTD_BAD_J);
     EXPECT(answers_untouched());
 }
 
@@ -577,8 +602,8 @@ static void unaligned(void)
     }
 }
 
-/* Case 7 of document 01 with the numbers of request N4, and clean pages. After an idle pass comes the first later one
- * whose threshold is smaller; the others are not counted. */
+/* Case 7 of document 01 with the numbers of request N4, on bits with a 1 for its 7, and clean pages. After an idle pass
+ * comes the first later one whose threshold is smaller; the others are not counted. */
 static void falling_thresholds(void)
 {
     static const struct {
@@ -593,11 +618,11 @@ static void falling_thresholds(void)
     };
     for (size_t i = 0; i < sizeof lists / sizeof lists[0]; i++) {
         prepare();
-        page[0] = 7;
-        EXPECT(qmtd_decode(256, K, 1, table_a, sizeof table_a, page, sizeof page, lists[i].list, lists[i].len,
-                           result, K, syndrome, K, difference, K, margins, sizeof margins,
-                           counts, sizeof counts) == QMTD_OK);
-        EXPECT(result[0] == (lists[i].changes ? 0 : 7) && all(result + 1, K - 1, 0));
+        page[0] = on->symbol;
+        EXPECT(on->decode(on->most_q, K, 1, table_a, sizeof table_a, page, sizeof page, lists[i].list, lists[i].len,
+                          result, K, syndrome, K, difference, K, margins, sizeof margins, counts, sizeof counts) ==
+               QMTD_OK);
+        EXPECT(result[0] == (lists[i].changes ? 0 : on->symbol) && all(result + 1, K - 1, 0));
         EXPECT(qmtd_number(counts) == lists[i].passes && qmtd_number(counts + 4) == lists[i].changes);
         EXPECT(qmtd_number(counts + 8) == 4 && qmtd_number(counts + 12) == (lists[i].changes ? 1 : 4));
     }
@@ -616,40 +641,41 @@ static void one_by_one(void)
         uint32_t threshold;
         uint64_t difference_len, changes_len;
         uint32_t number;
-        uint8_t changes, symbol;
+        uint8_t changes, right; /* is symbol 0 put right after it? */
     } calls[] = {
-        {33, K, 4, QMTD_BAD_THRESHOLD, 0xEE, 7},   {3, K, 4, QMTD_OK, 0, 7},
-        {0, K - 1, 4, QMTD_BAD_LENGTH, 0xEE, 7},   {0, K, 3, QMTD_BAD_LENGTH, 0xEE, 7},
-        {0, K, 0, QMTD_BAD_LENGTH, 0xEE, 7},       {0xFFFFFFFF, K, 4, QMTD_BAD_THRESHOLD, 0xEE, 7},
-        {2, K, 4, QMTD_OK, 1, 0},                  {33, K, 3, QMTD_BAD_LENGTH, 0xEE, 0},
-        {0, K, 4, QMTD_OK, 0, 0},
+        {33, K, 4, QMTD_BAD_THRESHOLD, 0xEE, 0},   {3, K, 4, QMTD_OK, 0, 0},
+        {0, K - 1, 4, QMTD_BAD_LENGTH, 0xEE, 0},   {0, K, 3, QMTD_BAD_LENGTH, 0xEE, 0},
+        {0, K, 0, QMTD_BAD_LENGTH, 0xEE, 0},       {0xFFFFFFFF, K, 4, QMTD_BAD_THRESHOLD, 0xEE, 0},
+        {2, K, 4, QMTD_OK, 1, 1},                  {33, K, 3, QMTD_BAD_LENGTH, 0xEE, 1},
+        {0, K, 4, QMTD_OK, 0, 1},
     };
+    const uint8_t h = on->symbol;
     prepare();
-    page[0] = 7;
-    EXPECT(qmtd_open(256, K, 1, table_a, sizeof table_a, page, sizeof page, result, K, syndrome, K, difference, K) ==
-           QMTD_OK);
-    EXPECT(all(difference, K, 0) && syndrome[0] == 7 && syndrome[1] == 7 && syndrome[4] == 7 && syndrome[6] == 7);
+    page[0] = h;
+    EXPECT(on->open(on->most_q, K, 1, table_a, sizeof table_a, page, sizeof page, result, K, syndrome, K,
+                    difference, K) == QMTD_OK);
+    EXPECT(all(difference, K, 0) && syndrome[0] == h && syndrome[1] == h && syndrome[4] == h && syndrome[6] == h);
     for (size_t i = 0; i < sizeof calls / sizeof calls[0]; i++) {
         memset(changes, 0xEE, sizeof changes);
-        EXPECT(qmtd_pass(256, K, 1, table_a, sizeof table_a, calls[i].threshold, result, K, syndrome, K,
-                         difference, calls[i].difference_len, changes, calls[i].changes_len) == calls[i].number);
+        EXPECT(on->pass(on->most_q, K, 1, table_a, sizeof table_a, calls[i].threshold, result, K, syndrome, K,
+                        difference, calls[i].difference_len, changes, calls[i].changes_len) == calls[i].number);
         EXPECT(changes[0] == calls[i].changes && all(changes + 1, 3, calls[i].number == QMTD_OK ? 0 : 0xEE));
-        EXPECT(result[0] == calls[i].symbol && difference[0] == (calls[i].symbol == 7 ? 0 : 249));
+        EXPECT(result[0] == (calls[i].right ? 0 : h) && difference[0] == (calls[i].right ? on->most_q - h : 0));
         EXPECT(all(result + 1, K - 1, 0) && all(difference + 1, K - 1, 0));
-        EXPECT(calls[i].symbol == 7 ? syndrome[0] == 7 : all(syndrome, K, 0));
+        EXPECT(calls[i].right ? all(syndrome, K, 0) : syndrome[0] == h);
     }
     EXPECT(QMTD_CHANGES_LEN == 4 && sizeof changes == QMTD_CHANGES_LEN);
 }
 
-/* The page of case 7 opened, and symbols explained before a pass and after it. S is 7 at the checks 0, 1, 4, 6 of symbol
- * 0, and each other symbol has one of them at most. */
+/* The page of case 7 opened, and symbols explained before a pass and after it. S is 7, or 1 on bits, at the four checks
+ * of symbol 0, which are 0, 1, 4, 6, and each other symbol has one of them at most. h0 is that number or 0. */
 static void explanations(void)
 {
     static const struct {
         uint32_t threshold, symbol, number;
-        uint8_t ground, h0, m0, m1, bits;
+        uint8_t ground, leads, m0, m1, bits; /* does that number lead, or 0? */
     } opened_asked[] = {
-        {2, 0, QMTD_OK, QMTD_GROUND_CHANGE, 7, 4, 1, 0x1E}, {3, 0, QMTD_OK, QMTD_GROUND_NO_LEAD, 7, 4, 1, 0x1E},
+        {2, 0, QMTD_OK, QMTD_GROUND_CHANGE, 1, 4, 1, 0x1E}, {3, 0, QMTD_OK, QMTD_GROUND_NO_LEAD, 1, 4, 1, 0x1E},
         {2, 1, QMTD_OK, QMTD_GROUND_ZERO, 0, 4, 1, 0x1D},   {32, 7, QMTD_OK, QMTD_GROUND_NO_LEAD, 0, 4, 1, 0x0F},
         {0, 12, QMTD_OK, QMTD_GROUND_ZERO, 0, 4, 1, 0x1B},  {0, 13, QMTD_BAD_SYMBOL_NUMBER, 0, 0, 0, 0, 0},
         {32, 256, QMTD_BAD_SYMBOL_NUMBER, 0, 0, 0, 0, 0},   {0, 0xFFFFFFFF, QMTD_BAD_SYMBOL_NUMBER, 0, 0, 0, 0, 0},
@@ -657,39 +683,41 @@ static void explanations(void)
     }, passed_asked[] = {
         {2, 0, QMTD_OK, QMTD_GROUND_ZERO, 0, 4, 1, 0x1E},   {3, 0, QMTD_OK, QMTD_GROUND_NO_LEAD, 0, 4, 1, 0x1E},
         {4, 1, QMTD_OK, QMTD_GROUND_ZERO, 0, 5, 0, 0x1F},   {5, 1, QMTD_OK, QMTD_GROUND_NO_LEAD, 0, 5, 0, 0x1F},
-    }, *asked = opened_asked;
+    }, *asked;
     size_t count = sizeof opened_asked / sizeof opened_asked[0];
+    const uint8_t h = on->symbol;
+    asked = opened_asked;
     prepare();
-    page[0] = 7;
-    EXPECT(qmtd_open(256, K, 1, table_a, sizeof table_a, page, sizeof page, result, K, syndrome, K, difference, K) ==
-           QMTD_OK);
+    page[0] = h;
+    EXPECT(on->open(on->most_q, K, 1, table_a, sizeof table_a, page, sizeof page, result, K, syndrome, K,
+                    difference, K) == QMTD_OK);
     for (int passed = 0; passed < 2; passed++) {
         for (size_t i = 0; i < count; i++) {
             memset(answer, 0xEE, sizeof answer);
-            EXPECT(qmtd_explain(256, K, 1, table_a, sizeof table_a, asked[i].threshold, asked[i].symbol, result, K,
-                                syndrome, K, difference, K, answer, sizeof answer) == asked[i].number);
+            EXPECT(on->explain(on->most_q, K, 1, table_a, sizeof table_a, asked[i].threshold, asked[i].symbol,
+                               result, K, syndrome, K, difference, K, answer, sizeof answer) == asked[i].number);
             if (asked[i].number != QMTD_OK) {
                 EXPECT(all(answer, sizeof answer, 0xEE));
                 continue;
             }
-            EXPECT(qmtd_number(answer) == asked[i].ground && qmtd_number(answer + 4) == asked[i].h0);
+            EXPECT(qmtd_number(answer) == asked[i].ground && qmtd_number(answer + 4) == (asked[i].leads ? h : 0));
             EXPECT(qmtd_number(answer + 8) == asked[i].m0 && qmtd_number(answer + 12) == asked[i].m1);
             EXPECT(answer[16] == asked[i].bits && all(answer + 17, 7, 0));
         }
-        EXPECT(result[0] == (passed ? 0 : 7) && all(result + 1, K - 1, 0) && syndrome[0] == (passed ? 0 : 7));
-        EXPECT(difference[0] == (passed ? 249 : 0) && all(difference + 1, K - 1, 0));
+        EXPECT(result[0] == (passed ? 0 : h) && all(result + 1, K - 1, 0) && syndrome[0] == (passed ? 0 : h));
+        EXPECT(difference[0] == (passed ? on->most_q - h : 0) && all(difference + 1, K - 1, 0));
         asked = passed_asked;
         count = sizeof passed_asked / sizeof passed_asked[0];
-        EXPECT(qmtd_pass(256, K, 1, table_a, sizeof table_a, 2, result, K, syndrome, K, difference, K,
-                         changes, sizeof changes) == QMTD_OK);
+        EXPECT(on->pass(on->most_q, K, 1, table_a, sizeof table_a, 2, result, K, syndrome, K, difference, K,
+                        changes, sizeof changes) == QMTD_OK);
     }
 
     /* Other lengths of the answer: 6, before 7, 9 and 11. */
     memset(answer, 0xEE, sizeof answer);
     syndrome[K - 1] = 5;
     for (uint64_t len = 0; len < sizeof answer; len++)
-        EXPECT(qmtd_explain(5, K, 1, table_a, sizeof table_a, 33, K, result, K, syndrome, K, difference, K,
-                            answer, len) == QMTD_BAD_LENGTH);
+        EXPECT(on->explain(on->q, K, 1, table_a, sizeof table_a, 33, K, result, K, syndrome, K, difference, K,
+                           answer, len) == QMTD_BAD_LENGTH);
     EXPECT(all(answer, sizeof answer, 0xEE));
     EXPECT(QMTD_BAD_SYMBOL_NUMBER == 11 && QMTD_ANSWER_LEN == 24 && sizeof answer == QMTD_ANSWER_LEN);
     EXPECT(QMTD_GROUND_NO_LEAD == 1 && QMTD_GROUND_ZERO == 2 && QMTD_GROUND_CHANGE == 3);
@@ -750,7 +778,7 @@ static uint32_t ground_of(uint32_t q, uint32_t k, uint32_t b, const uint8_t *tab
     const uint8_t *run = table + 2 * j * (symbol / k), *s = before + 2 * n, *d = before + n;
     uint32_t votes[256] = {0}, m1 = 0;
     uint8_t bytes[QMTD_ANSWER_LEN];
-    EXPECT(qmtd_explain(q, k, b, table, table_len, threshold, symbol, before, n, s, k, d, n, bytes, sizeof bytes) ==
+    EXPECT(on->explain(q, k, b, table, table_len, threshold, symbol, before, n, s, k, d, n, bytes, sizeof bytes) ==
            QMTD_OK);
     const uint32_t h0 = qmtd_number(bytes + 4), m0 = qmtd_number(bytes + 8);
     for (uint32_t i = 0; i < 64; i++) {
@@ -783,8 +811,8 @@ static uint32_t pass(uint32_t q, uint32_t k, uint32_t b, const uint8_t *table, u
     const uint32_t n = QMTD_DATA_LEN(k, b);
     uint8_t bytes[QMTD_CHANGES_LEN];
     memcpy(before, opened, 2 * n + k);
-    EXPECT(qmtd_pass(q, k, b, table, table_len, threshold, opened, n, opened + 2 * n, k, opened + n, n,
-                     bytes, sizeof bytes) == QMTD_OK);
+    EXPECT(on->pass(q, k, b, table, table_len, threshold, opened, n, opened + 2 * n, k, opened + n, n,
+                    bytes, sizeof bytes) == QMTD_OK);
     uint32_t made = qmtd_number(bytes);
     EXPECT(nonzero(opened + n, n + k) + made * (threshold + 1) <= nonzero(before + n, n + k));
     for (uint32_t i = 0; i < n; i++)
@@ -809,8 +837,8 @@ static void refused_pass(uint32_t q, uint32_t k, uint32_t b, const uint8_t *tabl
     uint8_t bytes[5];
     memset(bytes, 0xEE, sizeof bytes);
     memcpy(before, opened, 2 * n + k);
-    EXPECT(qmtd_pass(q, k, b, table, table_len, threshold, opened, n - (way == 2), opened + 2 * n, k - (way == 3),
-                     opened + n, n - (way == 4), bytes, changes_len) ==
+    EXPECT(on->pass(q, k, b, table, table_len, threshold, opened, n - (way == 2), opened + 2 * n, k - (way == 3),
+                    opened + n, n - (way == 4), bytes, changes_len) ==
            (way < 2 ? QMTD_BAD_THRESHOLD : QMTD_BAD_LENGTH));
     EXPECT(all(bytes, sizeof bytes, 0xEE) && memcmp(opened, before, 2 * n + k) == 0);
 }
@@ -937,8 +965,8 @@ static void passes_of(uint32_t q, uint32_t k, uint32_t b, const uint8_t *table, 
 {
     const uint32_t n = QMTD_DATA_LEN(k, b);
     uint32_t passes = 0, sum = 0;
-    EXPECT(qmtd_open(q, k, b, table, table_len, received, QMTD_PAGE_LEN(k, b), opened, n, opened + 2 * n, k,
-                     opened + n, n) == QMTD_OK);
+    EXPECT(on->open(q, k, b, table, table_len, received, QMTD_PAGE_LEN(k, b), opened, n, opened + 2 * n, k,
+                    opened + n, n) == QMTD_OK);
     EXPECT(memcmp(opened, received, n) == 0 && all(opened + n, n, 0));
     for (uint32_t at = 0; at < list_len;) {
         uint32_t threshold = list[at++];
@@ -960,7 +988,7 @@ static void passes_on_any(uint32_t q, uint32_t k, uint32_t b, const uint8_t *tab
 {
     const uint32_t n = QMTD_DATA_LEN(k, b);
     for (uint32_t i = 0; i < 2 * n + k; i++)
-        opened[i] = (uint8_t)below(i < n ? q : 3);
+        opened[i] = (uint8_t)below(i < n || q < 3 ? q : 3);
     for (uint32_t threshold = j + 2; threshold-- > 0;) {
         refused_pass(q, k, b, table, QMTD_TABLE_LEN(b, j));
         pass(q, k, b, table, QMTD_TABLE_LEN(b, j), threshold);
@@ -1013,10 +1041,10 @@ static uint32_t outer_of(uint32_t q, uint32_t k, uint32_t b, const uint8_t *tabl
 }
 
 /* At most t of a page's symbols replaced, 2 * t + (smallest threshold) <= J: decode gives the data back, wherever the
- * smallest stands in the list and whatever the others are, and so do its passes made one by one, decode with counters,
- * and decode with an outer check where the data kept the outer rule. The distance at the end is that of the page
- * encoded from the result, and the margins are those of the syndrome and the difference handed back. Returns the outer
- * steps made. */
+ * smallest stands in the list and whatever the others are, and so do its passes made one by one; on pages of bytes also
+ * decode with counters, and decode with an outer check where the data kept the outer rule. The distance at the end is
+ * that of the page encoded from the result, and the margins are those of the syndrome and the difference handed back.
+ * Returns the outer steps made. */
 static uint32_t recovery_of(uint32_t q, uint32_t k, uint32_t b, const uint8_t *table, uint32_t j, int rounds)
 {
     static uint8_t sent[QMTD_MAX_DATA], back[QMTD_MAX_DATA], s[QMTD_MAX_K], d[QMTD_MAX_DATA];
@@ -1027,7 +1055,7 @@ static uint32_t recovery_of(uint32_t q, uint32_t k, uint32_t b, const uint8_t *t
     while (rounds-- > 0) {
         for (uint32_t i = 0; i < n; i++)
             sent[i] = (uint8_t)below(q);
-        EXPECT(qmtd_encode(q, k, b, table, table_len, sent, n, encoded, page_len) == QMTD_OK);
+        EXPECT(on->encode(q, k, b, table, table_len, sent, n, encoded, page_len) == QMTD_OK);
 
         uint8_t list[QMTD_MAX_THRESHOLDS];
         uint32_t list_len = 1 + below(below(4) == 0 ? QMTD_MAX_THRESHOLDS : 4), smallest = below(j + 1);
@@ -1041,12 +1069,12 @@ static uint32_t recovery_of(uint32_t q, uint32_t k, uint32_t b, const uint8_t *t
             replaced += received[i] != encoded[i];
 
         uint8_t c[QMTD_COUNTS_LEN];
-        EXPECT(qmtd_decode(q, k, b, table, table_len, received, page_len, list, list_len, back, n, s, k, d, n,
-                           m, QMTD_MARGINS_LEN(k, b), c, sizeof c) == QMTD_OK);
+        EXPECT(on->decode(q, k, b, table, table_len, received, page_len, list, list_len, back, n, s, k, d, n,
+                          m, QMTD_MARGINS_LEN(k, b), c, sizeof c) == QMTD_OK);
         EXPECT(memcmp(back, sent, n) == 0);
         EXPECT(qmtd_number(c + 12) == replaced);
 
-        EXPECT(qmtd_encode(q, k, b, table, table_len, back, n, again, page_len) == QMTD_OK);
+        EXPECT(on->encode(q, k, b, table, table_len, back, n, again, page_len) == QMTD_OK);
         for (uint32_t i = 0; i < k; i++)
             EXPECT((received[n + i] + s[i]) % q == again[n + i]);
         for (uint32_t i = 0; i < n; i++) {
@@ -1056,6 +1084,8 @@ static uint32_t recovery_of(uint32_t q, uint32_t k, uint32_t b, const uint8_t *t
         EXPECT(nonzero(s, k) + nonzero(d, n) == replaced);
         const struct decoded decoded = {back, s, d, m, c};
         passes_of(q, k, b, table, table_len, received, list, list_len, decoded);
+        if (on == &bit_pages)
+            continue;
         counted_as(q, k, b, table, table_len, received, list, list_len, decoded);
         steps += outer_as(q, k, b, table, table_len, some_block(n), received, list, list_len, decoded);
         steps += outer_of(q, k, b, table, table_len, sent, (j - smallest) / 2, list, list_len);
@@ -1091,6 +1121,134 @@ static void recovery(void)
         steps += recovery_of(256, QMTD_MAX_DATA / b, b, pairs, 2, 2);
     }
     EXPECT(steps > 1000);
+
+    on = &bit_pages;
+    recovery_of(2, 7, 1, k_7, 3, 100);
+    recovery_of(2, K, 1, table_a, J, 200);
+    recovery_of(2, 57, 1, k_57, 8, 200);
+    recovery_of(2, 57, 1, k_57, 7, 200);
+    recovery_of(2, 4096, 1, k_4096, 10, 3);
+    recovery_of(2, K, 2, table_2, 3, 100);
+    recovery_of(2, 40, 3, table_3, 4, 100);
+    for (uint32_t b = QMTD_MIN_B; b <= QMTD_MAX_B; b++) {
+        recovery_of(2, 17, b, pairs, 2, 20);
+        recovery_of(2, QMTD_MAX_DATA / b, b, pairs, 2, 2);
+    }
+    on = &byte_pages;
+}
+
+/* On bit pages 1 unless q is 2, in every call and before all else. */
+static void q_of_bits(void)
+{
+    static const uint32_t large[] = {65534, 65538, 0x7FFFFFFF, 0x80000000, 0x80000002, 0xFFFFFFFE, 0xFFFFFFFF};
+    const uint8_t *t = table_a;
+    const size_t n = sizeof table_a, few = 600, count = few + sizeof large / sizeof large[0];
+    prepare();
+    for (size_t i = 0; i < count; i++) {
+        const uint32_t q = i < few ? (uint32_t)i : large[i - few];
+        if (q == 2)
+            continue;
+        EXPECT(qmtd_bits_check_table(q, K, 1, t, n) == QMTD_BAD_Q);
+        EXPECT(qmtd_bits_check_table(q, 0, 9, NULL, 0) == QMTD_BAD_Q);
+        EXPECT(qmtd_bits_encode(q, K, 1, t, n, data, K, page, sizeof page) == QMTD_BAD_Q);
+        EXPECT(qmtd_bits_syndrome(q, K, 1, t, n, page, sizeof page, syndrome, K) == QMTD_BAD_Q);
+        EXPECT(qmtd_bits_decode(q, K, 1, t, n, page, sizeof page, thresholds, 2, result, K, syndrome, K, difference, K,
+                                margins, sizeof margins, counts, sizeof counts) == QMTD_BAD_Q);
+        EXPECT(qmtd_bits_open(q, K, 1, t, n, page, sizeof page, result, K, syndrome, K, difference, K) == QMTD_BAD_Q);
+        EXPECT(qmtd_bits_pass(q, K, 1, t, n, 0, result, K, syndrome, K, difference, K, changes, 4) == QMTD_BAD_Q);
+        EXPECT(qmtd_bits_explain(q, K, 1, t, n, 0, 0, result, K, syndrome, K, difference, K, answer, 24) == QMTD_BAD_Q);
+    }
+    EXPECT(answers_untouched() && all(page, sizeof page, 0));
+    EXPECT(qmtd_bits_check_table(2, K, 1, t, n) == QMTD_OK && qmtd_check_table(2, K, 1, t, n) == QMTD_BAD_Q);
+    EXPECT(QMTD_BITS_Q == 2);
+}
+
+/* On bit pages 7 for every byte of 2 and more at every place: of data, of a page, and of the three buffers of a pass or
+ * an explanation. */
+static void bytes_on_bits(void)
+{
+    const uint8_t *t = table_a;
+    const size_t n = sizeof table_a;
+    prepare();
+    for (size_t value = 2; value < 256; value++)
+        for (size_t place = 0; place < 2 * K; place++) {
+            page[place] = (uint8_t)value;
+            EXPECT(qmtd_bits_syndrome(2, K, 1, t, n, page, sizeof page, syndrome, K) == QMTD_BAD_SYMBOL);
+            EXPECT(qmtd_bits_decode(2, K, 1, t, n, page, sizeof page, thresholds, 2, result, K, syndrome, K,
+                                    difference, K, margins, sizeof margins, counts, sizeof counts) == QMTD_BAD_SYMBOL);
+            EXPECT(qmtd_bits_open(2, K, 1, t, n, page, sizeof page, result, K, syndrome, K, difference, K) ==
+                   QMTD_BAD_SYMBOL);
+            page[place] = 0;
+            if (place >= K)
+                continue;
+            data[place] = (uint8_t)value;
+            EXPECT(qmtd_bits_encode(2, K, 1, t, n, data, K, page, sizeof page) == QMTD_BAD_SYMBOL);
+            data[place] = 0;
+        }
+    EXPECT(answers_untouched() && all(page, sizeof page, 0));
+
+    memset(result, 0, K);
+    memset(syndrome, 0, K);
+    memset(difference, 0, K);
+    uint8_t *const buffers[] = {result, syndrome, difference};
+    for (size_t value = 2; value < 256; value++)
+        for (size_t place = 0; place < 3 * K; place++) {
+            uint8_t *at = &buffers[place / K][place % K];
+            *at = (uint8_t)value;
+            EXPECT(qmtd_bits_pass(2, K, 1, t, n, 0, result, K, syndrome, K, difference, K, changes, 4) ==
+                   QMTD_BAD_SYMBOL);
+            EXPECT(qmtd_bits_explain(2, K, 1, t, n, 0, 5, result, K, syndrome, K, difference, K, answer, 24) ==
+                   QMTD_BAD_SYMBOL);
+            EXPECT(*at == value);
+            *at = 0;
+        }
+    EXPECT(all(changes, sizeof changes, 0xEE) && all(answer, sizeof answer, 0xEE));
+    EXPECT(all(result, K, 0) && all(syndrome, K, 0) && all(difference, K, 0));
+}
+
+/* Bits 0 and 1 of a page received as 1, encoded, decoded, opened, explained and by one pass, with every piece at every
+ * distance from an aligned address. */
+static void unaligned_bits(void)
+{
+    static const uint8_t due_counts[QMTD_COUNTS_LEN] = {[0] = 2, [4] = 2, [8] = 6, [12] = 2};
+    static const uint8_t due_answer[QMTD_ANSWER_LEN] = {[0] = 3, [4] = 1, [8] = 3, [12] = 2, [16] = 26};
+    enum { ROOM = 80 };
+    static union {
+        uint64_t alignment;
+        uint8_t bytes[8][ROOM];
+    } memory;
+    for (size_t shift = 0; shift < 16; shift++) {
+        uint8_t *at[8];
+        memset(memory.bytes, 0, sizeof memory.bytes);
+        for (size_t i = 0; i < 8; i++)
+            at[i] = memory.bytes[i] + (shift + i) % 16;
+        memcpy(at[0], table_a, sizeof table_a);
+        at[1][0] = at[1][1] = 1;
+        EXPECT(qmtd_bits_check_table(2, K, 1, at[0], sizeof table_a) == QMTD_OK);
+        EXPECT(qmtd_bits_decode(2, K, 1, at[0], sizeof table_a, at[1], 2 * K, at[2], 2, at[3], K, at[4], K, at[5], K,
+                                at[6], QMTD_MARGINS_LEN(K, 1), at[7], QMTD_COUNTS_LEN) == QMTD_OK);
+        EXPECT(all(at[3], K, 0) && all(at[4], K, 0) && all(at[5], 2, 1) && all(at[5] + 2, K - 2, 0));
+        for (size_t j = 0; j < K; j++)
+            EXPECT(qmtd_margin(at[6], j) == (j < 2 ? J - 1 : J + 1));
+        EXPECT(memcmp(at[7], due_counts, sizeof due_counts) == 0);
+
+        EXPECT(qmtd_bits_open(2, K, 1, at[0], sizeof table_a, at[1], 2 * K, at[3], K, at[4], K, at[5], K) == QMTD_OK);
+        EXPECT(memcmp(at[3], at[1], K) == 0 && all(at[5], K, 0));
+        /* The estimates of symbol 0 are 0, 1, 0, 1, 1. */
+        EXPECT(qmtd_bits_explain(2, K, 1, at[0], sizeof table_a, 0, 0, at[3], K, at[4], K, at[5], K, at[7],
+                                 QMTD_ANSWER_LEN) == QMTD_OK);
+        EXPECT(memcmp(at[7], due_answer, sizeof due_answer) == 0);
+        EXPECT(qmtd_bits_pass(2, K, 1, at[0], sizeof table_a, 0, at[3], K, at[4], K, at[5], K, at[6],
+                              QMTD_CHANGES_LEN) == QMTD_OK);
+        EXPECT(all(at[3], K, 0) && all(at[4], K, 0) && all(at[5], 2, 1) && all(at[5] + 2, K - 2, 0));
+        EXPECT(qmtd_number(at[6]) == 2);
+
+        EXPECT(qmtd_bits_syndrome(2, K, 1, at[0], sizeof table_a, at[1], 2 * K, at[4], K) == QMTD_OK);
+        EXPECT(at[4][0] == 1 && at[4][1] == 0 && at[4][2] == 1 && at[4][5] == 1);
+        at[3][0] = at[3][1] = 1;
+        EXPECT(qmtd_bits_encode(2, K, 1, at[0], sizeof table_a, at[3], K, at[1], 2 * K) == QMTD_OK);
+        EXPECT(memcmp(at[1], at[3], K) == 0 && memcmp(at[1] + K, at[4], K) == 0);
+    }
 }
 
 /* b outside its limits: 10, after 1 and 2 and before all else; nothing is divided by it and no product with k wraps. */
@@ -1104,20 +1262,20 @@ static void branches(void)
 
     for (size_t i = 0; i < sizeof others / sizeof others[0]; i++) {
         uint32_t b = others[i];
-        EXPECT(qmtd_check_table(5, K, b, table_a, n) == QMTD_BAD_BRANCHES);
-        EXPECT(qmtd_check_table(5, 16, b, table_a, n) == QMTD_BAD_BRANCHES);
-        EXPECT(qmtd_check_table(5, QMTD_MAX_K, b, table_a, n) == QMTD_BAD_BRANCHES);
-        EXPECT(qmtd_check_table(5, QMTD_MAX_K + 1, b, table_a, n) == QMTD_BAD_K);
-        EXPECT(qmtd_check_table(2, QMTD_MAX_K + 1, b, table_a, n) == QMTD_BAD_Q);
-        EXPECT(qmtd_check_table(5, K, b, NULL, 0) == QMTD_BAD_BRANCHES);
-        EXPECT(qmtd_check_table(5, K, b, table_a, 7) == QMTD_BAD_BRANCHES);
-        EXPECT(qmtd_encode(5, K, b, table_a, n, data, K, page, sizeof page) == QMTD_BAD_BRANCHES);
-        EXPECT(qmtd_encode(5, K, b, NULL, 0, NULL, 0, NULL, 0) == QMTD_BAD_BRANCHES);
-        EXPECT(qmtd_syndrome(5, K, b, table_a, n, page, sizeof page, syndrome, K) == QMTD_BAD_BRANCHES);
-        EXPECT(qmtd_syndrome(5, K, b, NULL, 0, NULL, 0, NULL, 0) == QMTD_BAD_BRANCHES);
-        EXPECT(qmtd_decode(5, K, b, table_a, n, page, sizeof page, thresholds, 2, result, K, syndrome, K, difference, K,
-                           margins, sizeof margins, counts, sizeof counts) == QMTD_BAD_BRANCHES);
-        EXPECT(qmtd_decode(5, K, b, NULL, 0, NULL, 0, NULL, 0, NULL, 0, NULL, 0, NULL, 0, NULL, 0, NULL, 0) ==
+        EXPECT(on->check_table(on->q, K, b, table_a, n) == QMTD_BAD_BRANCHES);
+        EXPECT(on->check_table(on->q, 16, b, table_a, n) == QMTD_BAD_BRANCHES);
+        EXPECT(on->check_table(on->q, QMTD_MAX_K, b, table_a, n) == QMTD_BAD_BRANCHES);
+        EXPECT(on->check_table(on->q, QMTD_MAX_K + 1, b, table_a, n) == QMTD_BAD_K);
+        EXPECT(on->check_table(on->other_q, QMTD_MAX_K + 1, b, table_a, n) == QMTD_BAD_Q);
+        EXPECT(on->check_table(on->q, K, b, NULL, 0) == QMTD_BAD_BRANCHES);
+        EXPECT(on->check_table(on->q, K, b, table_a, 7) == QMTD_BAD_BRANCHES);
+        EXPECT(on->encode(on->q, K, b, table_a, n, data, K, page, sizeof page) == QMTD_BAD_BRANCHES);
+        EXPECT(on->encode(on->q, K, b, NULL, 0, NULL, 0, NULL, 0) == QMTD_BAD_BRANCHES);
+        EXPECT(on->syndrome(on->q, K, b, table_a, n, page, sizeof page, syndrome, K) == QMTD_BAD_BRANCHES);
+        EXPECT(on->syndrome(on->q, K, b, NULL, 0, NULL, 0, NULL, 0) == QMTD_BAD_BRANCHES);
+        EXPECT(on->decode(on->q, K, b, table_a, n, page, sizeof page, thresholds, 2, result, K, syndrome, K,
+                          difference, K, margins, sizeof margins, counts, sizeof counts) == QMTD_BAD_BRANCHES);
+        EXPECT(on->decode(on->q, K, b, NULL, 0, NULL, 0, NULL, 0, NULL, 0, NULL, 0, NULL, 0, NULL, 0, NULL, 0) ==
                QMTD_BAD_BRANCHES);
         EXPECT(qmtd_decode_counters(5, K, b, table_a, n, page, sizeof page, thresholds, 2, result, K, syndrome, K,
                                     difference, K, margins, sizeof margins, counters, 255, counts, sizeof counts) ==
@@ -1130,23 +1288,23 @@ static void branches(void)
                                  difference, K, margins, sizeof margins, counts, sizeof counts) == QMTD_BAD_BRANCHES);
         EXPECT(qmtd_decode_outer(5, K, b, NULL, 0, 0, NULL, 0, NULL, 0, NULL, 0, NULL, 0, NULL, 0, NULL, 0, NULL, 0) ==
                QMTD_BAD_BRANCHES);
-        EXPECT(qmtd_open(5, K, b, table_a, n, page, sizeof page, result, K, syndrome, K, difference, K) ==
+        EXPECT(on->open(on->q, K, b, table_a, n, page, sizeof page, result, K, syndrome, K, difference, K) ==
                QMTD_BAD_BRANCHES);
-        EXPECT(qmtd_open(5, K, b, NULL, 0, NULL, 0, NULL, 0, NULL, 0, NULL, 0) == QMTD_BAD_BRANCHES);
-        EXPECT(qmtd_pass(5, K, b, table_a, n, 33, result, K, syndrome, K, difference, K, changes, 4) ==
+        EXPECT(on->open(on->q, K, b, NULL, 0, NULL, 0, NULL, 0, NULL, 0, NULL, 0) == QMTD_BAD_BRANCHES);
+        EXPECT(on->pass(on->q, K, b, table_a, n, 33, result, K, syndrome, K, difference, K, changes, 4) ==
                QMTD_BAD_BRANCHES);
-        EXPECT(qmtd_pass(5, K, b, NULL, 0, 33, NULL, 0, NULL, 0, NULL, 0, NULL, 0) == QMTD_BAD_BRANCHES);
-        EXPECT(qmtd_explain(5, K, b, table_a, n, 33, K, result, K, syndrome, K, difference, K, answer, 24) ==
+        EXPECT(on->pass(on->q, K, b, NULL, 0, 33, NULL, 0, NULL, 0, NULL, 0, NULL, 0) == QMTD_BAD_BRANCHES);
+        EXPECT(on->explain(on->q, K, b, table_a, n, 33, K, result, K, syndrome, K, difference, K, answer, 24) ==
                QMTD_BAD_BRANCHES);
-        EXPECT(qmtd_explain(5, K, b, NULL, 0, 33, K, NULL, 0, NULL, 0, NULL, 0, NULL, 0) == QMTD_BAD_BRANCHES);
+        EXPECT(on->explain(on->q, K, b, NULL, 0, 33, K, NULL, 0, NULL, 0, NULL, 0, NULL, 0) == QMTD_BAD_BRANCHES);
     }
     EXPECT(answers_untouched() && counters_zero() && all(page, sizeof page, 0));
 
     /* b * k at its limit, and above; one position in each run. */
     for (uint32_t b = QMTD_MIN_B; b <= QMTD_MAX_B; b++) {
         uint32_t most = QMTD_MAX_DATA / b, due = b == 1 ? QMTD_BAD_K : QMTD_BAD_BRANCHES;
-        EXPECT(qmtd_check_table(5, most, b, zeros, QMTD_TABLE_LEN(b, 1)) == QMTD_OK);
-        EXPECT(qmtd_check_table(5, most + 1, b, zeros, QMTD_TABLE_LEN(b, 1)) == due);
+        EXPECT(on->check_table(on->q, most, b, zeros, QMTD_TABLE_LEN(b, 1)) == QMTD_OK);
+        EXPECT(on->check_table(on->q, most + 1, b, zeros, QMTD_TABLE_LEN(b, 1)) == due);
     }
 
     /* Lengths of a table that are not b runs of 1 to 32 positions, up to two bytes more than the longest table. A table
@@ -1156,7 +1314,7 @@ static void branches(void)
             uint32_t j = len / (2 * b), due = j == 1 ? QMTD_OK : QMTD_BAD_POSITION;
             if (len != QMTD_TABLE_LEN(b, j) || j < QMTD_MIN_J || j > QMTD_MAX_J)
                 due = QMTD_BAD_J;
-            EXPECT(qmtd_check_table(5, K, b, zeros, len) == due);
+            EXPECT(on->check_table(on->q, K, b, zeros, len) == due);
         }
     EXPECT(QMTD_BAD_BRANCHES == 10 && QMTD_MIN_B == 1 && QMTD_MAX_B == 8 && QMTD_MAX_DATA == 4096);
 }
@@ -1165,24 +1323,31 @@ int main(void)
 {
     setvbuf(stdout, NULL, _IONBF, 0); /* what was found is shown even if the archive crashes the program */
     version();
-    null_with_length_0();
-    null_in_open_and_pass();
-    null_in_explain();
+    for (int i = 0; i < 2; i++) {
+        on = i == 0 ? &byte_pages : &bit_pages;
+        null_with_length_0();
+        null_in_open_and_pass();
+        null_in_explain();
+        counts_length();
+        odd_table();
+        falling_thresholds();
+        one_by_one();
+        explanations();
+        branches();
+    }
+    on = &byte_pages;
     null_in_decode_counters();
     null_in_outer();
-    counts_length();
     counters_lent();
     block_lengths();
-    odd_table();
     names();
     position_bytes();
     number_bytes();
     margin_bytes();
     unaligned();
-    falling_thresholds();
-    one_by_one();
-    explanations();
-    branches();
+    q_of_bits();
+    bytes_on_bits();
+    unaligned_bits();
     recovery();
     printf("%d failures\n", failures);
     return failures == 0 ? 0 : 1;

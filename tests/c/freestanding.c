@@ -1,6 +1,7 @@
 /* freestanding.c - all the calls in a program without a C library (x86-64 Linux). Exits 0, or with the number of the
  * step that went wrong. The one thing that the archive may ask for from outside, memset, is here. */
 #include "qmtd.h"
+#include "qmtd_bits.h"
 
 #include <stddef.h>
 
@@ -46,6 +47,17 @@ static const uint8_t outer_counts[QMTD_COUNTS_LEN] = {[0] = 2, [4] = 2, [8] = 3,
 /* Of symbol 0, whose estimates are 0, 7, 10, 7, 7. */
 static const uint8_t expected_answer[QMTD_ANSWER_LEN] = {[0] = QMTD_GROUND_CHANGE, [4] = 7, [8] = 3, [12] = 1, [16] = 26};
 
+/* Bit pages: the word of bits 0 and 12; then bits 0 and 1 received. The estimates of bit 0 are 0, 1, 0, 1, 1, and those of
+ * bit 1, once bit 0 is changed, 0, 1, 1, 1, 1. */
+static const uint8_t bit_data[K] = {[0] = 1, [12] = 1};
+static const uint8_t bit_word[2 * K] = {
+    [0] = 1, [12] = 1,
+    [K + 1] = 1, [K + 4] = 1, [K + 6] = 1, [K + 3] = 1, [K + 5] = 1, [K + 12] = 1};
+static const uint8_t bits_received[2 * K] = {1, 1};
+static const uint8_t bit_difference[K] = {1, 1};
+static const uint8_t bit_counts[QMTD_COUNTS_LEN] = {[0] = 2, [4] = 2, [8] = 6, [12] = 2};
+static const uint8_t bit_answer[QMTD_ANSWER_LEN] = {[0] = QMTD_GROUND_CHANGE, [4] = 1, [8] = 3, [12] = 2, [16] = 26};
+
 static uint8_t page[2 * K], result[K], syndrome[K], difference[K], margins[4 * K], counts[QMTD_COUNTS_LEN];
 static uint8_t changes[QMTD_CHANGES_LEN], answer[QMTD_ANSWER_LEN], counters[QMTD_COUNTERS_LEN];
 
@@ -89,6 +101,25 @@ static uint32_t explain(uint32_t symbol)
                         answer, sizeof answer);
 }
 
+static uint32_t bits_decode(uint32_t q)
+{
+    return qmtd_bits_decode(q, K, 1, table, sizeof table, bits_received, sizeof bits_received,
+                            thresholds, sizeof thresholds, result, K, syndrome, K, difference, K,
+                            margins, sizeof margins, counts, sizeof counts);
+}
+
+static uint32_t bits_pass(uint32_t threshold)
+{
+    return qmtd_bits_pass(2, K, 1, table, sizeof table, threshold, result, K, syndrome, K, difference, K,
+                          changes, sizeof changes);
+}
+
+static uint32_t bits_explain(uint32_t symbol)
+{
+    return qmtd_bits_explain(2, K, 1, table, sizeof table, 0, symbol, result, K, syndrome, K, difference, K,
+                             answer, sizeof answer);
+}
+
 static const uint8_t zeros[QMTD_COUNTERS_LEN];
 
 /* The answers of the decode: nothing but d(0) and d(1) is left that is not 0. */
@@ -105,6 +136,45 @@ static int decoded_outer(void)
 {
     return same(result, zeros, K) && same(syndrome, outer_syndrome, K) && same(difference, zeros, K) &&
            same(counts, outer_counts, sizeof counts) && qmtd_margin(margins, 0) == -1 && qmtd_margin(margins, 2) == 5;
+}
+
+static int bits_decoded(void)
+{
+    for (int j = 0; j < K; j++)
+        if (qmtd_margin(margins, (uint64_t)j) != (j < 2 ? 3 : 5))
+            return 0;
+    return same(result, zeros, K) && same(syndrome, zeros, K) && same(difference, bit_difference, K) &&
+           same(counts, bit_counts, sizeof counts);
+}
+
+/* The calls on bit pages. */
+static int run_bits(void)
+{
+    if (qmtd_bits_check_table(2, K, 1, table, sizeof table) != QMTD_OK ||
+        qmtd_bits_check_table(3, K, 1, table, sizeof table) != QMTD_BAD_Q)
+        return 15;
+    if (qmtd_bits_encode(2, K, 1, table, sizeof table, bit_data, K, page, sizeof page) != QMTD_OK ||
+        !same(page, bit_word, sizeof page) ||
+        qmtd_bits_encode(2, K, 1, table, sizeof table, data, K, page, sizeof page) != QMTD_BAD_SYMBOL ||
+        !same(page, bit_word, sizeof page))
+        return 16;
+    if (qmtd_bits_syndrome(2, K, 1, table, sizeof table, page, sizeof page, syndrome, K) != QMTD_OK ||
+        !same(syndrome, zeros, K))
+        return 17;
+    if (bits_decode(2) != QMTD_OK || !bits_decoded() || bits_decode(256) != QMTD_BAD_Q || !bits_decoded())
+        return 18;
+    if (qmtd_bits_open(2, K, 1, table, sizeof table, bits_received, sizeof bits_received, result, K, syndrome, K,
+                       difference, K) != QMTD_OK ||
+        !same(result, bits_received, K) || !same(difference, zeros, K))
+        return 19;
+    if (bits_explain(0) != QMTD_OK || !same(answer, bit_answer, sizeof answer) ||
+        bits_explain(K) != QMTD_BAD_SYMBOL_NUMBER || !same(answer, bit_answer, sizeof answer))
+        return 20;
+    if (bits_pass(33) != QMTD_BAD_THRESHOLD || !same(result, bits_received, K) || bits_pass(0) != QMTD_OK ||
+        !same(result, zeros, K) || !same(syndrome, zeros, K) || !same(difference, bit_difference, K) ||
+        !same(changes, expected_changes, sizeof changes))
+        return 21;
+    return 0;
 }
 
 int run(void);
@@ -152,5 +222,5 @@ int run(void)
         return 13;
     if (decode_outer(K) != QMTD_OK || !decoded_outer() || decode_outer(1) != QMTD_BAD_BLOCK || !decoded_outer())
         return 14;
-    return 0;
+    return run_bits();
 }

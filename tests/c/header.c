@@ -1,5 +1,7 @@
-/* header.c - the header alone, twice, compiles without warnings as C99; the names and types of its calls are these, and
- * its macros are constants that initialise a table. */
+/* header.c - the headers alone, each twice, compile without warnings as C99; the names and types of their calls are these,
+ * and their macros are constants that initialise a table. */
+#include "qmtd_bits.h"
+#include "qmtd_bits.h"
 #include "qmtd.h"
 #include "qmtd.h"
 
@@ -36,11 +38,20 @@ extern const struct calls {
     explain_call *explain;
     number_reader *number;
     margin_reader *margin;
+    check_table_call *bits_check_table;
+    encode_call *bits_encode;
+    syndrome_call *bits_syndrome;
+    decode_call *bits_decode;
+    open_call *bits_open;
+    pass_call *bits_pass;
+    explain_call *bits_explain;
 } calls;
 
 const struct calls calls = {qmtd_version, qmtd_check_table, qmtd_encode, qmtd_syndrome, qmtd_decode,
                             qmtd_decode_counters, qmtd_encode_outer, qmtd_decode_outer, qmtd_open, qmtd_pass,
-                            qmtd_explain, qmtd_number, qmtd_margin};
+                            qmtd_explain, qmtd_number, qmtd_margin,
+                            qmtd_bits_check_table, qmtd_bits_encode, qmtd_bits_syndrome, qmtd_bits_decode,
+                            qmtd_bits_open, qmtd_bits_pass, qmtd_bits_explain};
 
 extern const uint8_t table[QMTD_TABLE_LEN(2, 2)];
 const uint8_t table[QMTD_TABLE_LEN(2, 2)] = {QMTD_POSITION(0), QMTD_POSITION(260),

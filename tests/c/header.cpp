@@ -1,7 +1,9 @@
-// header.cpp - the header compiles without warnings as C++11, its names are C names to the linker, and its macros and
+// header.cpp - the headers compile without warnings as C++11, their names are C names to the linker, and their macros and
 // inline functions give in C++ what they give in C.
 #include "qmtd.h"
 #include "qmtd.h"
+#include "qmtd_bits.h"
+#include "qmtd_bits.h"
 
 int main()
 {
@@ -12,6 +14,7 @@ int main()
     static const uint8_t margins[] = {33, 0, 0, 0, 223, 255, 255, 255, 255, 255, 255, 255, 0, 0, 0, 0};
     const bool right = qmtd_version() == QMTD_VERSION_NUMBER &&
                        qmtd_check_table(QMTD_MAX_Q, 13, 1, table, sizeof table) == QMTD_OK &&
+                       qmtd_bits_check_table(2, 13, 1, table, sizeof table) == QMTD_OK &&
                        sizeof positions == 8 && positions[0] == 255 && positions[1] == 0 &&
                        positions[2] == 0 && positions[3] == 1 && positions[4] == 4 && positions[5] == 1 &&
                        positions[6] == 255 && positions[7] == 15 &&

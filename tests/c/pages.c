@@ -6,6 +6,7 @@
  * Memory whose content the page does not give holds another pattern each time: no written byte can pass for an unwritten
  * one in both. The pages of decode run twice more with counters, which must change nothing. */
 #include "qmtd.h"
+#include "qmtd_bits.h"
 
 #include <stdio.h>
 #include <stdlib.h>
@@ -76,6 +77,42 @@ static uint32_t decode_outer(const uint32_t *n, const struct piece *p)
                              LENT(p[5]), LENT(p[6]), LENT(p[7]));
 }
 
+static uint32_t bits_check_table(const uint32_t *n, const struct piece *p)
+{
+    return qmtd_bits_check_table(n[0], n[1], n[2], LENT(p[0]));
+}
+
+static uint32_t bits_encode(const uint32_t *n, const struct piece *p)
+{
+    return qmtd_bits_encode(n[0], n[1], n[2], LENT(p[0]), LENT(p[1]), LENT(p[2]));
+}
+
+static uint32_t bits_syndrome(const uint32_t *n, const struct piece *p)
+{
+    return qmtd_bits_syndrome(n[0], n[1], n[2], LENT(p[0]), LENT(p[1]), LENT(p[2]));
+}
+
+static uint32_t bits_decode(const uint32_t *n, const struct piece *p)
+{
+    return qmtd_bits_decode(n[0], n[1], n[2], LENT(p[0]), LENT(p[1]), LENT(p[2]), LENT(p[3]), LENT(p[4]), LENT(p[5]),
+                            LENT(p[6]), LENT(p[7]));
+}
+
+static uint32_t bits_open(const uint32_t *n, const struct piece *p)
+{
+    return qmtd_bits_open(n[0], n[1], n[2], LENT(p[0]), LENT(p[1]), LENT(p[2]), LENT(p[3]), LENT(p[4]));
+}
+
+static uint32_t bits_pass(const uint32_t *n, const struct piece *p)
+{
+    return qmtd_bits_pass(n[0], n[1], n[2], LENT(p[0]), n[3], LENT(p[1]), LENT(p[2]), LENT(p[3]), LENT(p[4]));
+}
+
+static uint32_t bits_explain(const uint32_t *n, const struct piece *p)
+{
+    return qmtd_bits_explain(n[0], n[1], n[2], LENT(p[0]), n[3], n[4], LENT(p[1]), LENT(p[2]), LENT(p[3]), LENT(p[4]));
+}
+
 /* The calls by their number in the file: name, how many numbers each takes, the names of its pieces, the call itself.
  * Number 0 is no call: it opens a group, whose name is the piece. */
 static const struct call {
@@ -97,6 +134,14 @@ static const struct call {
     {"encode_outer", 4, {"table", "data", "page"}, encode_outer},
     {"decode_outer", 4, {"table", "page", "thresholds", "result", "syndrome", "difference", "margins", "counts"},
      decode_outer},
+    {"bits_check_table", 3, {"table"}, bits_check_table},
+    {"bits_encode", 3, {"table", "data", "page"}, bits_encode},
+    {"bits_syndrome", 3, {"table", "page", "syndrome"}, bits_syndrome},
+    {"bits_decode", 3, {"table", "page", "thresholds", "result", "syndrome", "difference", "margins", "counts"},
+     bits_decode},
+    {"bits_open", 3, {"table", "page", "result", "syndrome", "difference"}, bits_open},
+    {"bits_pass", 4, {"table", "result", "syndrome", "difference", "changes"}, bits_pass},
+    {"bits_explain", 5, {"table", "result", "syndrome", "difference", "answer"}, bits_explain},
 };
 enum { OPEN_GROUP = 0, DECODE = 4, DECODE_COUNTERS = 8, CALLS = sizeof calls / sizeof calls[0] };
 

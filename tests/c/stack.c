@@ -2,6 +2,7 @@
  * a stack of its own, filled with a pattern before; what no longer holds the pattern was used. */
 #define _DEFAULT_SOURCE
 #include "qmtd.h"
+#include "qmtd_bits.h"
 
 #include <stdio.h>
 #include <string.h>
@@ -23,13 +24,14 @@ static const struct code {
     size_t table_len;
 } codes[] = {{"b = 1", K, 1, ruler, sizeof ruler}, {"b = 8", PAIRS_K, QMTD_MAX_B, pairs, sizeof pairs}}, *code;
 
-static uint8_t data[N], page[QMTD_MAX_PAGE_LEN], result[N], syndrome[K], difference[N];
+static uint8_t data[N], bits[N], page[QMTD_MAX_PAGE_LEN], result[N], syndrome[K], difference[N];
 static uint8_t margins[QMTD_MARGINS_LEN(N, 1)], counts[QMTD_COUNTS_LEN], changes[QMTD_CHANGES_LEN];
 static uint8_t answer[QMTD_ANSWER_LEN], counters[QMTD_COUNTERS_LEN];
 static uint8_t stack[STACK] __attribute__((aligned(16)));
 static uint32_t number;
 
 #define CODE 251, code->k, code->b, code->table, code->table_len
+#define BIT_CODE 2, code->k, code->b, code->table, code->table_len
 
 static void check_table(void)
 {
@@ -89,6 +91,43 @@ static void explain(void)
     number = qmtd_explain(CODE, 0, N - 1, result, N, syndrome, code->k, difference, N, answer, sizeof answer);
 }
 
+/* The same seven on bit pages. */
+static void bits_check_table(void)
+{
+    number = qmtd_bits_check_table(BIT_CODE);
+}
+
+static void bits_encode(void)
+{
+    number = qmtd_bits_encode(BIT_CODE, bits, N, page, N + code->k);
+}
+
+static void bits_syndrome(void)
+{
+    number = qmtd_bits_syndrome(BIT_CODE, page, N + code->k, syndrome, code->k);
+}
+
+static void bits_decode(void)
+{
+    number = qmtd_bits_decode(BIT_CODE, page, N + code->k, thresholds, sizeof thresholds, result, N, syndrome, code->k,
+                              difference, N, margins, sizeof margins, counts, sizeof counts);
+}
+
+static void bits_open(void)
+{
+    number = qmtd_bits_open(BIT_CODE, page, N + code->k, result, N, syndrome, code->k, difference, N);
+}
+
+static void bits_pass(void)
+{
+    number = qmtd_bits_pass(BIT_CODE, 0, result, N, syndrome, code->k, difference, N, changes, sizeof changes);
+}
+
+static void bits_explain(void)
+{
+    number = qmtd_bits_explain(BIT_CODE, 0, N - 1, result, N, syndrome, code->k, difference, N, answer, sizeof answer);
+}
+
 static void idle(void)
 {
     number = QMTD_OK;
@@ -142,20 +181,26 @@ int main(void)
         void (*call)(void);
     } calls[] = {{"check_table", check_table}, {"encode_outer", encode_outer}, {"encode", encode},
                  {"syndrome", work_out_syndrome}, {"decode", decode}, {"decode_counters", decode_counters},
-                 {"decode_outer", decode_outer}, {"open", open_page}, {"pass", pass}, {"explain", explain}};
+                 {"decode_outer", decode_outer}, {"open", open_page}, {"pass", pass}, {"explain", explain},
+                 {"bits_check_table", bits_check_table}, {"bits_encode", bits_encode},
+                 {"bits_syndrome", bits_syndrome}, {"bits_decode", bits_decode}, {"bits_open", bits_open},
+                 {"bits_pass", bits_pass}, {"bits_explain", bits_explain}};
     int wrong = 0;
     size_t around = used_by(idle);
-    for (size_t i = 0; i < N; i++)
+    for (size_t i = 0; i < N; i++) {
         data[i] = (uint8_t)(i % 251);
+        bits[i] = data[i] % 2;
+    }
     for (size_t c = 0; c < sizeof codes / sizeof codes[0]; c++)
         for (size_t i = 0; i < sizeof calls / sizeof calls[0]; i++) {
             code = &codes[c];
             size_t used = used_by(calls[i].call) - around;
-            printf("%s, %-15s %lu bytes of stack\n", code->name, calls[i].name, (unsigned long)used);
+            printf("%s, %-16s %lu bytes of stack\n", code->name, calls[i].name, (unsigned long)used);
             wrong |= number != QMTD_OK || used > ALLOWED;
-            if (calls[i].call == encode)
-                for (size_t at = 0; at < N + code->k; at += 100)
-                    page[at] = (uint8_t)((page[at] + 1) % 251);
+            /* The page is damaged before it is decoded. */
+            uint8_t q = calls[i].call == encode ? 251 : calls[i].call == bits_encode ? 2 : 0;
+            for (size_t at = 0; q != 0 && at < N + code->k; at += 100)
+                page[at] = (uint8_t)((page[at] + 1) % q);
         }
     return wrong;
 }
