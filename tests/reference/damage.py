@@ -1,6 +1,6 @@
 """damage.py [Q]: prints a table of docs/history/damage.md. For codes of docs/TABLES.md, threshold lists and
 shares of a page's symbols replaced at random: of 50 pages, those whose data the decoder put right, by the reference
-program. Q is the alphabet size, 256 unless it is given."""
+program. Q is the alphabet size, 256 unless it is given; 2 for bits."""
 
 import sys
 
