@@ -11,8 +11,8 @@
 #   make test-c                 the C tests over the archive for x86-64
 #   make test-targets           the archives for the other processors: all built, four run under emulation
 #   make install PREFIX=..      headers, archive and pkg-config file; TARGET=.. as above
-#   make bench                  the library against C, and decode in blocks against decode: times, and instructions a data
-#                               byte; TARGET=x86-64-v3 for AVX2
+#   make bench                  the library against C, decode in blocks against decode, and decode on bits against decode
+#                               at q = 3: times, and instructions a data byte; TARGET=x86-64-v3 for AVX2
 #   make votes                  build/votes/libvotes.a, both votes alone, which bench/votes measures
 #   make pages, check-pages     make the reference pages, and what the examples must print, anew; compare them with the
 #                               committed ones
@@ -118,7 +118,9 @@ install: lib
 bench: lib
 	TARGET=$(TARGET) bench/run
 	TARGET=$(TARGET) bench/run --outer
-	@if command -v valgrind >/dev/null; then TARGET=$(TARGET) bench/count && TARGET=$(TARGET) bench/count --outer; \
+	TARGET=$(TARGET) bench/run --bits
+	@if command -v valgrind >/dev/null; then \
+	   TARGET=$(TARGET) bench/count && TARGET=$(TARGET) bench/count --outer && TARGET=$(TARGET) bench/count --bits; \
 	 else echo "no valgrind: instructions not counted"; fi
 
 votes: build/votes/libvotes.a

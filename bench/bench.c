@@ -1,5 +1,5 @@
 /* bench.c - measures the library beside the same calls in C, in one run:
- *   bench [--quick] [--ns] [--before] [--counters] [--outer] [--passes] [--rows FILTER]
+ *   bench [--quick] [--ns] [--before] [--counters] [--outer] [--bits] [--passes] [--rows FILTER]
  *
  * Every page is first put through all implementations, and all they return and write is compared. Then, sweep by sweep,
  * row by row and round by round, each implementation runs in turn; its fastest round counts.
@@ -11,10 +11,13 @@
  *   --before        the library beside the archive that bench/build was told of by QMTD_BEFORE
  *   --counters      the library alone: decode with counters beside decode
  *   --outer         the library alone: decode with an outer check beside decode, in blocks of 8 and of 16
+ *   --bits          decode on bits beside the general decode at q = 3, on pages with the same places replaced, and
+ *                   beside plain C on bits
  *   --passes        the library alone: decode with one threshold beside open and one pass with it */
 #define _POSIX_C_SOURCE 199309L
 #include "calls.h"
 #include "measure.h"
+#include "qmtd_bits.h"
 
 #include <stdio.h>
 #include <stdlib.h>
@@ -28,8 +31,9 @@
     syndrome_call prefix##syndrome;         \
     decode_call prefix##decode;
 
-#define CALLS(title, prefix) {title, prefix##check_table, prefix##encode, prefix##syndrome, prefix##decode}
+#define CALLS(title, prefix) {title, prefix##check_table, prefix##encode, prefix##syndrome, prefix##decode, 0}
 
+DECLARE(plain_bits_)
 DECLARE(plain_gcc_)
 DECLARE(fast_gcc_)
 #ifdef WITH_CLANG
@@ -46,6 +50,7 @@ struct implementation {
     encode_call *encode;
     syndrome_call *syndrome;
     decode_call *decode;
+    int at_3; /* is it given the row's page at q = 3? */
 };
 
 static decode_call decode_counters, decode_outer_8, decode_outer_16;
@@ -65,14 +70,20 @@ static const struct implementation library_and_c[] = {
 enum { MAX_IMPLEMENTATIONS = sizeof library_and_c / sizeof library_and_c[0] };
 
 static const struct implementation both_votes[] = {
-    {"counters", qmtd_check_table, qmtd_encode, qmtd_syndrome, decode_counters},
+    {"counters", qmtd_check_table, qmtd_encode, qmtd_syndrome, decode_counters, 0},
     CALLS("decode", qmtd_),
 };
 
 static const struct implementation with_outer[] = {
     CALLS("decode", qmtd_),
-    {"L = 8", qmtd_check_table, qmtd_encode, qmtd_syndrome, decode_outer_8},
-    {"L = 16", qmtd_check_table, qmtd_encode, qmtd_syndrome, decode_outer_16},
+    {"L = 8", qmtd_check_table, qmtd_encode, qmtd_syndrome, decode_outer_8, 0},
+    {"L = 16", qmtd_check_table, qmtd_encode, qmtd_syndrome, decode_outer_16, 0},
+};
+
+static const struct implementation on_bits[] = {
+    CALLS("bits", qmtd_bits_),
+    {"q = 3", qmtd_check_table, qmtd_encode, qmtd_syndrome, qmtd_decode, 1},
+    CALLS("plain gcc", plain_bits_),
 };
 
 static const struct implementation with_before[] = {
@@ -130,7 +141,7 @@ static const struct code outer_codes[] = {{1024, 1, 12, 387}, {4096, 1, 10, 1531
                                           {1024, 4, 8, 387}};
 enum { SENT_BLOCK = 8 };
 
-static const uint32_t alphabets[] = {256, 251};
+static const uint32_t alphabets[] = {256, 251}, bits_alphabet[] = {2};
 enum { ALPHABETS = sizeof alphabets / sizeof alphabets[0] };
 
 static const uint32_t damages[] = {0, 1, 5, 10}; /* symbols replaced, in percent */
@@ -148,17 +159,21 @@ static const struct comparison {
     int count;
     const struct code *codes;
     int code_count;
+    const uint32_t *alphabets;
+    int alphabet_count;
     enum call first;
     const char *ratio;
-} library_with_c = {library_and_c, MAX_IMPLEMENTATIONS, codes, MAX_CODES, CHECK_TABLE,
+} library_with_c = {library_and_c, MAX_IMPLEMENTATIONS, codes, MAX_CODES, alphabets, ALPHABETS, CHECK_TABLE,
                     "library speed / C speed; above 1 the library is faster"},
   votes = {both_votes, sizeof both_votes / sizeof both_votes[0], vote_codes, sizeof vote_codes / sizeof vote_codes[0],
-           DECODE, "speed with counters / speed without; above 1 it is faster with them"},
+           alphabets, ALPHABETS, DECODE, "speed with counters / speed without; above 1 it is faster with them"},
   outer = {with_outer, sizeof with_outer / sizeof with_outer[0], outer_codes,
-           sizeof outer_codes / sizeof outer_codes[0], DECODE,
+           sizeof outer_codes / sizeof outer_codes[0], alphabets, ALPHABETS, DECODE,
            "time with the outer check / time of decode; above 1 it takes longer"},
-  before = {with_before, sizeof with_before / sizeof with_before[0], codes, MAX_CODES, CHECK_TABLE,
-            "library speed / speed of the archive before; above 1 the library is faster"},
+  bits = {on_bits, sizeof on_bits / sizeof on_bits[0], codes, MAX_CODES, bits_alphabet, 1, DECODE,
+          "speed on bits / speed of the other; above 1 bits are faster"},
+  before = {with_before, sizeof with_before / sizeof with_before[0], codes, MAX_CODES, alphabets, ALPHABETS,
+            CHECK_TABLE, "library speed / speed of the archive before; above 1 the library is faster"},
   *compared = &library_with_c;
 
 struct row {
@@ -166,6 +181,7 @@ struct row {
     enum call call;
     uint32_t q, k, b, positions, symbols; /* data symbols of all branches */
     uint8_t table[QMTD_MAX_TABLE_LEN], thresholds[4], data[QMTD_MAX_DATA], page[QMTD_MAX_PAGE_LEN];
+    uint8_t page_at_3[QMTD_MAX_PAGE_LEN]; /* of bits: other data at q = 3, the same places replaced */
 };
 
 /* What a call returns and writes. */
@@ -222,13 +238,31 @@ static void make_table(const struct code *code, uint8_t *table)
     }
 }
 
-/* Encodes the row's data, with an outer check where that is compared. */
+/* Encodes the row's data, on bits or with an outer check where that is compared. */
 static uint32_t encode_row(struct row *row)
 {
     uint32_t q = row->q, k = row->k, b = row->b, table_len = 2 * b * row->positions, n = row->symbols;
     if (compared == &outer)
         return qmtd_encode_outer(q, k, b, row->table, table_len, SENT_BLOCK, row->data, n, row->page, n + k);
+    if (compared == &bits)
+        return qmtd_bits_encode(q, k, b, row->table, table_len, row->data, n, row->page, n + k);
     return qmtd_encode(q, k, b, row->table, table_len, row->data, n, row->page, n + k);
+}
+
+/* Makes the page at q = 3 that is damaged at the same places. */
+static void make_page_at_3(struct row *row, const uint8_t *replaced)
+{
+    uint32_t k = row->k, b = row->b, n = row->symbols;
+    uint8_t data[QMTD_MAX_DATA];
+    for (uint32_t i = 0; i < n; i++)
+        data[i] = (uint8_t)draw(3);
+    if (qmtd_encode(3, k, b, row->table, 2 * b * row->positions, data, n, row->page_at_3, n + k) != QMTD_OK) {
+        fprintf(stderr, "%s: the library refuses the table at q = 3\n", row->name);
+        exit(1);
+    }
+    for (uint32_t i = 0; i < n + k; i++)
+        if (replaced[i])
+            row->page_at_3[i] = (uint8_t)((row->page_at_3[i] + 1 + draw(2)) % 3);
 }
 
 /* Makes the row's page: data drawn, encoded by the library, then the damage, rounded up to whole symbols. */
@@ -239,7 +273,8 @@ static void make_page(struct row *row, uint32_t damage)
     generator = 0x9E3779B97F4A7C15u;
     for (uint32_t i = 0; i < row->symbols; i++)
         row->data[i] = (uint8_t)draw(q);
-    if (qmtd_check_table(q, k, b, row->table, table_len) != QMTD_OK || encode_row(row) != QMTD_OK) {
+    if (compared->implementations[0].check_table(q, k, b, row->table, table_len) != QMTD_OK ||
+        encode_row(row) != QMTD_OK) {
         fprintf(stderr, "%s: the library refuses the table\n", row->name);
         exit(1);
     }
@@ -251,6 +286,8 @@ static void make_page(struct row *row, uint32_t damage)
         row->page[i] = (uint8_t)((row->page[i] + 1 + draw(q - 1)) % q);
         left--;
     }
+    if (compared == &bits)
+        make_page_at_3(row, replaced);
 }
 
 static void make_row(struct row *row, const struct code *code, uint32_t q, enum call call, uint32_t damage)
@@ -279,7 +316,7 @@ static void make_row(struct row *row, const struct code *code, uint32_t q, enum 
 
 static void make_call(const struct implementation *by, const struct row *row, struct answer *answer)
 {
-    uint32_t q = row->q, k = row->k, b = row->b, n = row->symbols;
+    uint32_t q = by->at_3 ? 3 : row->q, k = row->k, b = row->b, n = row->symbols;
     const uint8_t *table = row->table;
     size_t table_len = 2 * b * row->positions;
     switch (row->call) {
@@ -293,8 +330,8 @@ static void make_call(const struct implementation *by, const struct row *row, st
         answer->number = by->syndrome(q, k, b, table, table_len, row->page, n + k, answer->syndrome, k);
         break;
     case DECODE:
-        answer->number = by->decode(q, k, b, table, table_len, row->page, n + k, row->thresholds,
-                                    sizeof row->thresholds, answer->result, n, answer->syndrome, k,
+        answer->number = by->decode(q, k, b, table, table_len, by->at_3 ? row->page_at_3 : row->page, n + k,
+                                    row->thresholds, sizeof row->thresholds, answer->result, n, answer->syndrome, k,
                                     answer->difference, n, answer->margins, 4 * n, answer->counts,
                                     sizeof answer->counts);
         break;
@@ -320,18 +357,17 @@ static int is_due(const struct answer *answer, const struct answer *first)
     return memcmp(answer, first, sizeof *answer) == 0;
 }
 
-/* Puts the row through all implementations; leaves the answer of the first. Do all agree? */
-static int agree(const struct row *row, struct answer *first)
+/* Puts the row through all implementations; leaves their answers. Do all agree that are given the same page? */
+static int agree(const struct row *row, struct answer *answers)
 {
     for (int i = 0; i < compared->count; i++) {
-        static struct answer other;
-        struct answer *answer = i == 0 ? first : &other;
+        const struct implementation *by = &compared->implementations[i];
+        struct answer *answer = &answers[i];
         memset(answer, 0xA5, sizeof *answer);
-        make_call(&compared->implementations[i], row, answer);
-        if (answer->number != QMTD_OK || !is_due(answer, first)) {
-            fprintf(stderr, "%s: %s returned %u%s\n", row->name, compared->implementations[i].name,
-                    (unsigned)answer->number,
-                    answer->number == first->number ? " and wrote other bytes than the first" : "");
+        make_call(by, row, answer);
+        if (answer->number != QMTD_OK || (!by->at_3 && !is_due(answer, answers))) {
+            fprintf(stderr, "%s: %s returned %u%s\n", row->name, by->name, (unsigned)answer->number,
+                    answer->number == answers->number ? " and wrote other bytes than the first" : "");
             return 0;
         }
     }
@@ -383,10 +419,11 @@ static void print_head(int ns)
     printf("%-36s %8s ", "", compared->implementations[0].name);
     for (int i = 1; i < compared->count; i++)
         printf(" %11s", compared->implementations[i].name);
-    printf("   passes changes\n%-36s %8s  %s\n", "", "ns/byte", ns ? "ns/byte" : compared->ratio);
+    printf("   passes changes%s\n%-36s %8s  %s\n", compared == &bits ? "  and at q = 3" : "", "", "ns/byte",
+           ns ? "ns/byte" : compared->ratio);
 }
 
-static void print_row(const struct row *row, const double *best, const struct answer *answer, int ns)
+static void print_row(const struct row *row, const double *best, const struct answer *answers, int ns)
 {
     printf("%-36s %8.3f ", row->name, best[0] / row->symbols);
     for (int i = 1; i < compared->count; i++)
@@ -394,8 +431,9 @@ static void print_row(const struct row *row, const double *best, const struct an
             printf(" %11.3f", best[i] / row->symbols);
         else
             printf(" %11.2f", best[i] / best[0]);
-    if (row->call == DECODE)
-        printf("   %6u %7u", (unsigned)number_at(answer->counts), (unsigned)number_at(answer->counts + 4));
+    for (int i = 0; i < compared->count && row->call == DECODE; i++)
+        if (i == 0 || compared->implementations[i].at_3)
+            printf("   %6u %7u", (unsigned)number_at(answers[i].counts), (unsigned)number_at(answers[i].counts + 4));
     printf("\n");
     fflush(stdout);
 }
@@ -480,12 +518,14 @@ int main(int argc, char **argv)
             compared = &votes;
         } else if (strcmp(argv[i], "--outer") == 0) {
             compared = &outer;
+        } else if (strcmp(argv[i], "--bits") == 0) {
+            compared = &bits;
         } else if (strcmp(argv[i], "--passes") == 0) {
             passes = 1;
         } else if (strcmp(argv[i], "--rows") == 0 && i + 1 < argc) {
             filter = argv[++i];
         } else {
-            fprintf(stderr, "bench [--quick] [--ns] [--count] [--before] [--counters] [--outer] [--passes] "
+            fprintf(stderr, "bench [--quick] [--ns] [--count] [--before] [--counters] [--outer] [--bits] [--passes] "
                             "[--rows FILTER]\n");
             return 2;
         }
@@ -506,15 +546,15 @@ int main(int argc, char **argv)
     for (int sweep = 0; sweep < sweeps; sweep++) {
         rows = 0;
         for (int c = 0; c < compared->code_count; c++)
-            for (int a = 0; a < ALPHABETS; a++)
+            for (int a = 0; a < compared->alphabet_count; a++)
                 for (enum call call = compared->first; call <= DECODE; call++)
                     for (int d = 0; d < DAMAGES; d++) {
                         static struct row row;
-                        static struct answer answer;
+                        static struct answer answers[MAX_IMPLEMENTATIONS];
                         /* A table check does not depend on q; only a decode depends on the damage. */
                         if ((call == CHECK_TABLE && a > 0) || (call != DECODE && d > 0))
                             continue;
-                        make_row(&row, &compared->codes[c], alphabets[a], call, damages[d]);
+                        make_row(&row, &compared->codes[c], compared->alphabets[a], call, damages[d]);
                         if (strstr(row.name, filter) == NULL || (count && !to_count(&row, damages[d])))
                             continue;
                         if (passes) {
@@ -525,11 +565,11 @@ int main(int argc, char **argv)
                         } else if (count) {
                             count_row(&row);
                         } else {
-                            if (!agree(&row, &answer))
+                            if (!agree(&row, answers))
                                 return 1;
                             measure(&row, rounds, batch, best[rows]);
                             if (sweep == sweeps - 1)
-                                print_row(&row, best[rows], &answer, ns);
+                                print_row(&row, best[rows], answers, ns);
                         }
                         rows++;
                     }

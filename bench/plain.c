@@ -1,4 +1,5 @@
-/* plain.c - the four calls in plain C, straight from the steps of documents 01 and 02, as one would first write them.
+/* plain.c - the four calls in plain C, straight from the steps of documents 01 and 02, as one would first write them;
+ * with BITS those on bit pages.
  *
  * CALL(name) makes the names, plain_encode and so on; another prefix keeps the objects of two compilers apart. */
 #include "calls.h"
@@ -7,6 +8,12 @@
 
 #ifndef CALL
 #define CALL(name) plain_##name
+#endif
+
+#ifdef BITS
+enum { MIN_Q = 2, MAX_Q = 2 };
+#else
+enum { MIN_Q = QMTD_MIN_Q, MAX_Q = QMTD_MAX_Q };
 #endif
 
 check_table_call CALL(check_table);
@@ -27,7 +34,7 @@ static const uint8_t *run_of(const uint8_t *table, size_t j, uint32_t r)
 
 uint32_t CALL(check_table)(uint32_t q, uint32_t k, uint32_t b, const uint8_t *table, uint64_t table_len)
 {
-    if (q < QMTD_MIN_Q || q > QMTD_MAX_Q)
+    if (q < MIN_Q || q > MAX_Q)
         return QMTD_BAD_Q;
     if (k < QMTD_MIN_K || k > QMTD_MAX_K)
         return QMTD_BAD_K;
