@@ -77,8 +77,8 @@ extern "C" {
 /* ---- Version ---- */
 
 #define QMTD_VERSION_MAJOR 0
-#define QMTD_VERSION_MINOR 9
-#define QMTD_VERSION_PATCH 3
+#define QMTD_VERSION_MINOR 10
+#define QMTD_VERSION_PATCH 0
 #define QMTD_VERSION_NUMBER (QMTD_VERSION_MAJOR * 10000 + QMTD_VERSION_MINOR * 100 + QMTD_VERSION_PATCH)
 
 /* ---- Limits, both ends included ---- */
