@@ -7,7 +7,6 @@ use native.Mathlib.Omega.{arith}
 use lib.Count.{ones}
 use lib.Dec.{eqb, ltb}
 use lib.ListN.{length, getD, drop, drop-of-length-le, length-drop}
-use lib.Pow.{shl-exact}
 use lib.Seq.{drop-cons}
 use borrow.Author.Tests.{lt-ltb, le-ltb}
 use Rattle.model.specs.Code.{checksBy}
@@ -55,10 +54,6 @@ module _ (n w : ℕ) where
   pub decide-yes : (t : ℕ) → zerosIn n w + t < ones w → 1 ≡ bit (onesDecide t n w)
   unfolding onesDecide
   decide-yes t h = rw (lt-ltb t (ones w - zerosIn n w) (omega arith)) refl
-
--- 2 to the n, by a shift
-pub shifted : (n : ℕ) → n ≤ 33 → (1 * 2 ^ n) % 18446744073709551616 ≡ 2 ^ n
-shifted n h = shl-exact 1 n 64 (omega arith) (omega arith) ∙ one-mul (2 ^ n)
 
 -- ---- the word of the checks from position i on
 

@@ -72,6 +72,20 @@ pub fn vote_in(n: usize, word: u64) -> Vote
     }
 }
 
+// The word of n bits that are all 1, by doubling: some processors have no shift of 64 bits by a number.
+fn all_bits(n: usize) -> u64
+    requires { ⌜ n ≤ 33 ⌝ }
+    ensures { λ r. ⌜ r ≡ 2 ^ n - 1 ⌝ }
+{
+    let mut all: u64 = 0;
+    let mut i = 0;
+    while i < n {
+        all = all + all + 1;
+        i += 1;
+    }
+    all
+}
+
 // The bits of a word of n bits that are h, where h is 0 or 1, as ones: the word itself, or the rest of its bits.
 pub fn equal_in(n: usize, word: u64, h: u8) -> u64
     requires { ⌜ (n ≤ 33) × (word < 2 ^ n) ⌝ }
@@ -80,5 +94,5 @@ pub fn equal_in(n: usize, word: u64, h: u8) -> u64
     if h == 1 {
         return word;
     }
-    (1u64 << n) - 1 - word
+    all_bits(n) - word
 }
