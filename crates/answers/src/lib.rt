@@ -43,7 +43,7 @@ fn all_small(thresholds: &[u8]) -> bool
 pub fn threshold_answer(thresholds: &[u8]) -> u32
     ensures { λ r. ⌜ r ≡ firstThatApplies (thresholdTests (now (thresholds .entry))) ⌝ }
 {
-    if !table::within(1, 64, thresholds.len()) {
+    if !limits::within(1, 64, thresholds.len()) {
         return 8;
     }
     if !all_small(thresholds) {

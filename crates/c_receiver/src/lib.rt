@@ -64,6 +64,7 @@ pub fn decode_into(
     }
     let tally = decoded.tally;
     margin_bytes::put_margins(
+        bits,
         code,
         positions,
         tally.end,

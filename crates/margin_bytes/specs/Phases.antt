@@ -12,7 +12,7 @@ use Rattle.model.specs.Limits.{TableLimits}
 use Rattle.model.specs.Symbols.{tabulate}
 use Rattle.zeros.specs.Counts.{zeroCounts}
 use Rattle.margins.specs.Margins.{marginOf}
-use Rattle.margins.specs.Phases.{zerosAt, zerosMargin, firm-margin, PastFirm, Held, held-first, held-past, held-one, held-turn, held-all}
+use Rattle.firm_symbols.specs.Phases.{zerosAt, zerosMargin, firm-margin, PastFirm, Held, held-first, held-past, held-one, held-turn, held-all}
 
 -- four bytes that are written are one margin
 word-set : (ms : List ℤ) (j : ℕ) (m : ℤ) → j < length ms → sets (marginBytes ms) (4 * j) (wordOf (twos m)) ≡ marginBytes (set ms j m)

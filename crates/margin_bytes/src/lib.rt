@@ -12,13 +12,14 @@ ghost use Rattle.model.specs.Decoder.{stateBy, marginsOf};
 ghost use Rattle.model.specs.Symbols.{Below, tabulate};
 ghost use Rattle.params.specs.Codes.{codeBy};
 ghost use Rattle.checks.specs.Places.{AtTable, InBranch, branchOf};
+ghost use Rattle.ones.specs.Pages.{AllBits};
 ghost use Rattle.zeros.specs.Counts.{zeroCounts};
 ghost use Rattle.margins.specs.Margins.{Left};
-ghost use Rattle.margins.specs.Phases.{zerosMargin};
+ghost use Rattle.firm_symbols.specs.Phases.{zerosMargin};
 ghost use Rattle.margin_bytes.specs.Phases.{HeldBytes};
 
 // A signed number in two's complement.
-fn twos_of(x: i32) -> u32
+pub fn twos_of(x: i32) -> u32
     ensures { λ r. ⌜ r ≡ twos x ⌝ }
 {
     if x < 0 {
@@ -29,11 +30,20 @@ fn twos_of(x: i32) -> u32
 }
 
 // Four bytes for the margin of every data symbol, one by one, branch by branch, from S and D and the zeros at the checks of each.
-fn write_each(code: Params, positions: &[u16], zeros: &[u8], s: &[u8], d: &[u8], out: &mut [u8])
+fn write_each(
+    bits: bool,
+    code: Params,
+    positions: &[u16],
+    zeros: &[u8],
+    s: &[u8],
+    d: &[u8],
+    out: &mut [u8],
+)
     requires { ⌜ AtTable (codeBy code (now positions)) (now s)
         × (now zeros ≡ zeroCounts (codeBy code (now positions)) (now s))
         × (length (now d) ≡ dataCount (codeBy code (now positions)))
-        × (length (now out) ≡ 4 * dataCount (codeBy code (now positions))) ⌝ }
+        × (length (now out) ≡ 4 * dataCount (codeBy code (now positions)))
+        × AllBits bits (now s) (now d) ⌝ }
     ensures { λ _. ⌜ ((r : List ℕ) → now (out .exit) ≡ marginBytes (marginsOf (codeBy code (now (positions .entry))) (stateBy r (now (s .entry)) (now (d .entry))))) ⌝ }
 {
     let mut place = Place::opening(code.k, params::checks_each(code, positions.len()));
@@ -44,7 +54,7 @@ fn write_each(code: Params, positions: &[u16], zeros: &[u8], s: &[u8], d: &[u8],
         while place.symbol < place.end {
             let j = place.symbol;
             let index = j - place.start;
-            let m = margins::margin_at(code, run, index, d[j], zeros[j], s);
+            let m = margins::margin_at(bits, code, run, index, d[j], zeros[j], s);
             number_bytes::put_word(out, 4 * j, twos_of(m));
             place = place.along();
         }
@@ -54,7 +64,7 @@ fn write_each(code: Params, positions: &[u16], zeros: &[u8], s: &[u8], d: &[u8],
 
 // Four bytes for the margin that every data symbol has where at most one of its estimates is not 0, by the zeros among them, in one
 // straight run.
-fn write_by_zeros(each: u8, zeros: &[u8], d: &[u8], out: &mut [u8])
+pub fn write_by_zeros(each: u8, zeros: &[u8], d: &[u8], out: &mut [u8])
     requires { ⌜ (each ≤ 32)
         × (length (now d) ≤ 4096)
         × (length (now zeros) ≡ length (now d))
@@ -64,7 +74,7 @@ fn write_by_zeros(each: u8, zeros: &[u8], d: &[u8], out: &mut [u8])
 {
     let mut i = 0;
     while i < d.len() {
-        let m = margins::margin_by_zeros(each, margins::zeros_with(d[i], zeros[i]));
+        let m = firm_symbols::margin_by_zeros(each, margins::zeros_with(d[i], zeros[i]));
         number_bytes::put_word(out, 4 * i, twos_of(m));
         i += 1;
     }
@@ -73,6 +83,7 @@ fn write_by_zeros(each: u8, zeros: &[u8], d: &[u8], out: &mut [u8])
 // The margins of the data symbols of a branch, from one on and before the end, that are not firm: they have fewer zeros among their estimates
 // than checks.
 fn write_doubtful(
+    bits: bool,
     each: u8,
     code: Params,
     positions: &[u16],
@@ -90,7 +101,8 @@ fn write_doubtful(
         × InBranch (codeBy code (now positions)) (branchOf place) place
         × (place .symbol ≤ end)
         × (end ≤ place .end)
-        × HeldBytes (codeBy code (now positions)) (now zeros) (now s) (now d) (now out) (place .symbol) ⌝ }
+        × HeldBytes (codeBy code (now positions)) (now zeros) (now s) (now d) (now out) (place .symbol)
+        × AllBits bits (now s) (now d) ⌝ }
     ensures { λ _. ⌜ HeldBytes (codeBy code (now (positions .entry))) (now (zeros .entry)) (now (s .entry)) (now (d .entry)) (now (out .exit)) end ⌝ }
 {
     let first = place.first;
@@ -103,18 +115,27 @@ fn write_doubtful(
         let own = d[j];
         let n = margins::zeros_with(own, zeros[j]);
         if n < each {
-            let m = margins::margin_counted(code, run, j - place.start, own, n, s);
+            let m = margins::margin_counted(bits, code, run, j - place.start, own, n, s);
             number_bytes::put_word(out, 4 * j, twos_of(m));
         }
     }
 }
 
 // The margins of all data symbols that are not firm, where the others are written. Blocks of firm symbols are passed over.
-fn write_others(code: Params, positions: &[u16], zeros: &[u8], s: &[u8], d: &[u8], out: &mut [u8])
+fn write_others(
+    bits: bool,
+    code: Params,
+    positions: &[u16],
+    zeros: &[u8],
+    s: &[u8],
+    d: &[u8],
+    out: &mut [u8],
+)
     requires { ⌜ AtTable (codeBy code (now positions)) (now s)
         × (now zeros ≡ zeroCounts (codeBy code (now positions)) (now s))
         × (length (now d) ≡ dataCount (codeBy code (now positions)))
-        × HeldBytes (codeBy code (now positions)) (now zeros) (now s) (now d) (now out) 0 ⌝ }
+        × HeldBytes (codeBy code (now positions)) (now zeros) (now s) (now d) (now out) 0
+        × AllBits bits (now s) (now d) ⌝ }
     ensures { λ _. ⌜ ((r : List ℕ) → now (out .exit) ≡ marginBytes (marginsOf (codeBy code (now (positions .entry))) (stateBy r (now (s .entry)) (now (d .entry))))) ⌝ }
 {
     let checks = params::checks_each(code, positions.len());
@@ -122,9 +143,20 @@ fn write_others(code: Params, positions: &[u16], zeros: &[u8], s: &[u8], d: &[u8
     let mut place = Place::opening(code.k, checks);
     while place.symbol < d.len() {
         while place.symbol < place.end {
-            let from = margins::past_firm(each, zeros, d, place.symbol, place.end);
-            let end = margins::block_end(from, place.end);
-            write_doubtful(each, code, positions, place.at(from), end, zeros, s, d, out);
+            let from = firm_symbols::past_firm(each, zeros, d, place.symbol, place.end);
+            let end = firm_symbols::block_end(from, place.end);
+            write_doubtful(
+                bits,
+                each,
+                code,
+                positions,
+                place.at(from),
+                end,
+                zeros,
+                s,
+                d,
+                out,
+            );
             place = place.at(end);
         }
         place = place.onward(code.k);
@@ -133,15 +165,24 @@ fn write_others(code: Params, positions: &[u16], zeros: &[u8], s: &[u8], d: &[u8
 
 // Four bytes for the margin of every data symbol. On a page that is not short they are written in two phases, since most symbols of a lightly
 // damaged page are firm.
-fn write_margins(code: Params, positions: &[u16], zeros: &[u8], s: &[u8], d: &[u8], out: &mut [u8])
+fn write_margins(
+    bits: bool,
+    code: Params,
+    positions: &[u16],
+    zeros: &[u8],
+    s: &[u8],
+    d: &[u8],
+    out: &mut [u8],
+)
     requires { ⌜ AtTable (codeBy code (now positions)) (now s)
         × (now zeros ≡ zeroCounts (codeBy code (now positions)) (now s))
         × (length (now d) ≡ dataCount (codeBy code (now positions)))
-        × (length (now out) ≡ 4 * dataCount (codeBy code (now positions))) ⌝ }
+        × (length (now out) ≡ 4 * dataCount (codeBy code (now positions)))
+        × AllBits bits (now s) (now d) ⌝ }
     ensures { λ _. ⌜ ((r : List ℕ) → now (out .exit) ≡ marginBytes (marginsOf (codeBy code (now (positions .entry))) (stateBy r (now (s .entry)) (now (d .entry))))) ⌝ }
 {
     if d.len() < 64 {
-        write_each(code, positions, zeros, s, d, out);
+        write_each(bits, code, positions, zeros, s, d, out);
     } else {
         write_by_zeros(
             params::checks_each(code, positions.len()) as u8,
@@ -149,12 +190,12 @@ fn write_margins(code: Params, positions: &[u16], zeros: &[u8], s: &[u8], d: &[u
             d,
             out,
         );
-        write_others(code, positions, zeros, s, d, out);
+        write_others(bits, code, positions, zeros, s, d, out);
     }
 }
 
 // Four bytes for the margin of each of count data symbols where S and D are 0: all its n estimates are.
-fn write_firm(n: u8, count: usize, out: &mut [u8])
+pub fn write_firm(n: u8, count: usize, out: &mut [u8])
     requires { ⌜ (n ≤ 33) × (count ≤ 4096) × (length (now out) ≡ 4 * count) ⌝ }
     ensures { λ _. ⌜ now (out .exit) ≡ marginBytes (map (λ j. pos n -ℤ pos 0) (tabulate count (λ j. j))) ⌝ }
 {
@@ -167,6 +208,7 @@ fn write_firm(n: u8, count: usize, out: &mut [u8])
 
 // The margins that a decode hands back, from what it leaves: `end` is the distance at its end.
 pub fn put_margins(
+    bits: bool,
     code: Params,
     positions: &[u16],
     end: u32,
@@ -175,7 +217,9 @@ pub fn put_margins(
     d: &[u8],
     out: &mut [u8],
 )
-    requires { ⌜ Left (codeBy code (now positions)) (now s) (now d) (now zeros) end × (length (now out) ≡ 4 * dataCount (codeBy code (now positions))) ⌝ }
+    requires { ⌜ Left (codeBy code (now positions)) (now s) (now d) (now zeros) end
+        × (length (now out) ≡ 4 * dataCount (codeBy code (now positions)))
+        × AllBits bits (now s) (now d) ⌝ }
     ensures { λ _. ⌜ ((r : List ℕ) → now (out .exit) ≡ marginBytes (marginsOf (codeBy code (now (positions .entry))) (stateBy r (now (s .entry)) (now (d .entry))))) ⌝ }
 {
     let n = d.len();
@@ -183,6 +227,6 @@ pub fn put_margins(
         let each = params::checks_each(code, positions.len());
         write_firm((each + 1) as u8, n, out);
     } else {
-        write_margins(code, positions, &zeros[..n], s, d, out);
+        write_margins(bits, code, positions, &zeros[..n], s, d, out);
     }
 }

@@ -1,3 +1,2 @@
--- The laws of the functions that write margins.
+-- The laws of the functions that tell margins.
 pub mod Margins
-pub mod Phases

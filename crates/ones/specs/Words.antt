@@ -3,6 +3,7 @@ use mathlib.Core.Path.{_≡_, refl, ap, sym, _∙_, subst}
 use mathlib.Core.List.{List, [], _∷_}
 use Prim.Native.Nat.{ℕ, zero, suc, _+_, _-_, _*_, _%_, _^_, _≤_, _<_, max, min}
 use native.Mathlib.Nat.{one-mul}
+use native.Mathlib.Decide.{decLe}
 use native.Mathlib.Omega.{arith}
 use lib.Count.{ones}
 use lib.Dec.{eqb, ltb}
@@ -11,13 +12,16 @@ use lib.Seq.{drop-cons}
 use borrow.Author.Tests.{lt-ltb, le-ltb}
 use Rattle.model.specs.Code.{checksBy}
 use Rattle.model.specs.Decoder.{isChange}
-use Rattle.model.specs.Symbols.{choose, bit, symbolsAt, Below}
+use Rattle.model.specs.Symbols.{choose, bit, count, symbolsAt, Below}
 use Rattle.model.specs.Vote.{leader, Votes, gathered, equalBits, bitVotes, zerosIn, onesDecide}
 use Rattle.theory.specs.BitVote.{gathered-cons, bits-all, word-ones, vote-bits, change-bits, equal-bits}
 use Rattle.theory.specs.Circulant.{length-checksBy}
 use Rattle.theory.specs.Counting.{length-symbolsAt}
 use Rattle.theory.specs.Explaining.{bits-nil, bits-small, bits-below}
+use Rattle.theory.specs.Margins.{zeros-others}
+use Rattle.theory.specs.Voting.{other-max}
 use Rattle.vote.specs.Leading.{voteOf}
+use Rattle.vote.specs.Others.{others}
 use Rattle.vote.specs.declared.Vote.{Vote}
 use Rattle.checks.specs.Checks.{AtChecks, estimatesBy}
 use Rattle.checks.specs.Estimates.{estimates-length}
@@ -153,3 +157,12 @@ module _ {es : List ℕ} {n w : ℕ} (g : InWord es n w) where
   -- the bits of the estimates that equal h0
   pub word-equal : choose (eqb (leader es) 1) w (2 ^ n - 1 - w) ≡ equalBits es (leader es)
   word-equal = rw (g .len, g .are) (sym (equal-bits es (g .low) (g .some)))
+
+  -- the largest count of a value other than 0 is that of the ones
+  pub word-others : ones w ≡ others es
+  word-others =
+      let o = ap ones (g .are) ∙ word-ones es (g .low) in
+      elim (decLe (count 1 es) 0) as (λ d. ones w ≡ others es) [
+        | yes z ↦ omega (arith, o, zeros-others es, bits-all es (g .low))
+        | no m ↦ omega (arith, o, zeros-others es, bits-all es (g .low), other-max es 0 es 1 (λ e. absurd (omega arith)) (omega arith))
+      ]

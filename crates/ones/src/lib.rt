@@ -8,6 +8,7 @@ ghost use lib.Dec.{eqb};
 ghost use Rattle.model.specs.Decoder.{isChange};
 ghost use Rattle.model.specs.Symbols.{choose, bit, Below};
 ghost use Rattle.model.specs.Vote.{gathered, onesDecide};
+ghost use Rattle.vote.specs.Others.{others};
 ghost use Rattle.checks.specs.Checks.{AtChecks, estimatesBy};
 ghost use Rattle.ones.specs.Words.{voteIn};
 
@@ -47,6 +48,14 @@ pub fn decided_at(code: Params, positions: &[u16], j: usize, threshold: u8, own:
 {
     let word = gather(code, positions, j, own, s);
     decide(positions.len() + 1, word, threshold)
+}
+
+// The largest count of a value other than 0 among the estimates of symbol j of a branch: on bits that value is 1, and the ones of the word are its count.
+pub fn ones_at(code: Params, positions: &[u16], j: usize, own: u8, s: &[u8]) -> u8
+    requires { ⌜ AtChecks (code .k) (now positions) (now s) × (j < code .k) × (own < 2) × Below 2 (now s) ⌝ }
+    ensures { λ r. ⌜ r ≡ others (estimatesBy (code .k) (now (positions .entry)) j own (now (s .entry))) ⌝ }
+{
+    u64::count_ones(gather(code, positions, j, own, s)) as u8
 }
 
 // What the vote tells, by the ones of a word of n bits: 1 leads where they are more than the zeros, else 0.

@@ -96,7 +96,7 @@ module _ (c : Code) (L : ℕ) (ts page : List ℕ) (lent : State) (o : Opens c p
       | yes y ↦ one-corrected y
       | no m ↦
           let n = no-steps c L st (blockCount c L)
-          (λ i h. clean-no-step c L (fits m) (o .usable) page (o .whole) i h st (decoded-distance c page lent o ts ∙ sym (ap (λ (y : Progress). y .tally .end) e) ∙ z)) in
+          (λ i h. clean-no-step c L (fits m) (o .usable) page (o .whole) i h st (decoded-distance c page (o .usable) (o .whole) ts ∙ sym (ap (λ (y : Progress). y .tally .end) e) ∙ z)) in
           e ∙ as-passed (n .0) (n .1)
     ]
 

@@ -1,19 +1,21 @@
 -- What decode leaves and counts, for every form of the call, and what its margins are filled from.
-use mathlib.Core.Path.{_≡_, ap, sym, _∙_}
+use mathlib.Core.Path.{_≡_, ap, sym, subst, _∙_}
 use mathlib.Core.Logic.{_≢_}
-use mathlib.Core.Bool.{Bool}
+use mathlib.Core.Bool.{Bool, true}
 use mathlib.Core.List.{List}
 use Prim.Native.Nat.{ℕ, _+_, _≤_}
+use native.Mathlib.Omega.{arith}
 use lib.ListN.{length, take}
 use Rattle.model.specs.Calls.{Outcome, outcome, noCounts}
 use Rattle.model.specs.Code.{Code, dataCount}
 use Rattle.model.specs.Decoder.{State, Counts, stateWeight}
 use Rattle.model.specs.Outer.{outerState, outerCounts}
-use Rattle.model.specs.Symbols.{weight}
+use Rattle.model.specs.Symbols.{weight, Below}
 use Rattle.theory.specs.Answers.{Opens}
 use Rattle.theory.specs.Decoding.{OnPage, on-distance}
 use Rattle.theory.specs.InBlocks.{Blocks, blocksAnswer}
 use Rattle.margins.specs.Margins.{Left}
+use Rattle.ones.specs.Pages.{AllBits}
 use Rattle.outer_correction.specs.Corrected.{corrected, corrected-on}
 use Rattle.visits.specs.Progress.{Progress}
 use Rattle.zeros.specs.Counts.{zeroCounts}
@@ -50,3 +52,11 @@ left-by c n page ts lent o fits x zeros e room counted =
       room = room;
       counted = counted;
     }
+
+-- on bit pages all of it is bits
+pub low-by : (c : Code) (n : ℕ) (page ts : List ℕ) (lent : State) → Opens c page lent → Blocks c n → (x : Progress) → x ≡ corrected c n ts page
+    → (bits : Bool) → (bits ≡ true → c .q ≤ 2) → AllBits bits (x .state .syndrome) (x .state .difference)
+low-by c n page ts lent o fits x e bits two z =
+    let on : OnPage c page (outerState c n ts page) = corrected-on c n ts page lent o fits in
+    subst (λ (y : Progress). Below 2 (y .state .syndrome) × Below 2 (y .state .difference)) (sym e)
+    ((λ i. omega (arith, two z, on .sized .in-syndrome i)), (λ i. omega (arith, two z, on .sized .in-difference i)))

@@ -12,6 +12,7 @@ ghost use Rattle.model.specs.Calls.{decodeFits};
 ghost use Rattle.params.specs.Codes.{codeBy};
 ghost use Rattle.theory.specs.Counters.{Clear};
 ghost use Rattle.theory.specs.InBlocks.{decodeForm};
+ghost use Rattle.ones.specs.Pages.{AllBits};
 ghost use Rattle.margins.specs.Margins.{Left};
 ghost use Rattle.receiver.specs.Received.{countsOf, ranOutcome};
 
@@ -43,7 +44,8 @@ pub fn decode_with(
         (stateBy (now (result .entry)) (now (syndrome .entry)) (now (difference .entry))))
         (now (page .entry)) (now (thresholds .entry))
         (stateBy (now (result .entry)) (now (syndrome .entry)) (now (difference .entry))) ⌝ }
-    ensures left { λ r. ⌜ (r .number ≡ 0 → Left (codeBy code (now (positions .entry))) (now (syndrome .exit)) (now (difference .exit)) (now (zeros .exit)) (r .tally .end)) ⌝ }
+    ensures left { λ r. ⌜ (r .number ≡ 0 → Left (codeBy code (now (positions .entry))) (now (syndrome .exit)) (now (difference .exit)) (now (zeros .exit)) (r .tally .end)
+        × AllBits bits (now (syndrome .exit)) (now (difference .exit))) ⌝ }
     ensures kept { λ r. ⌜ now (counters .exit) ≡ now (counters .entry) ⌝ }
 {
     let fits = lengths::decode_fits(
@@ -129,7 +131,8 @@ pub fn decode_into(
         return got;
     }
     let counts = got.tally;
-    margins::fill(
+    page_margins::fill(
+        bits,
         code,
         positions,
         counts.end,

@@ -15,10 +15,7 @@ use Rattle.theory.specs.Answers.{passed-by, refused-first, passed-first, sizes-
 use Rattle.theory.specs.Counting.{is-true, is-false}
 use Rattle.theory.specs.Profiles.{laterTests}
 use Rattle.theory.specs.Tables.{fit-test, every-facts}
-
--- tests 2, 10 and 3
-abbrev pub shapeTests : Code → List Test
-shapeTests c = test 2 (not (within 1 4096 (c .k))) ∷ test 10 (not (branchesFit c)) ∷ test 3 (not (runsFit c)) ∷ []
+use Rattle.limits.specs.Sizes.{shapeTests}
 
 -- within the limits of the sizes, tests 4 and 5 decide
 pub sized-answer : (c : Code) → firstThatApplies (shapeTests c) ≡ 0

@@ -68,7 +68,7 @@ pub extern "C" fn qmtd_bench_votes_pairs(lists: &[u8], each: u32) -> u32
     ensures { λ r. ⌜ r ≡ checksum each (now (lists .entry)) ⌝ }
 {
     let size = each as usize;
-    if !table::within(2, 33, size) {
+    if !limits::within(2, 33, size) {
         return 0;
     }
     sum_pairs(lists, size)
@@ -84,7 +84,7 @@ pub extern "C" fn qmtd_bench_votes_counted(lists: &[u8], each: u32, counters: &m
     if !lengths::counters_fit(counters) {
         return 0;
     }
-    if !table::within(2, 33, size) {
+    if !limits::within(2, 33, size) {
         return 0;
     }
     sum_counted(lists, size, counters)

@@ -106,7 +106,8 @@ returns c =
 put-margins-requires : tie.Need-put-margins-requires
 put-margins-requires c κs =
     let done = c .before .before .before .before .before in
-    (decode (done .before) .decode-with .ensures .1 .0 (done .if1 .left), lengths done .0)
+    let left = decode (done .before) .decode-with .ensures .1 .0 (done .if1 .left) in
+    (left .0, lengths done .0, left .1)
 
 put-counts-requires : tie.Need-put-counts-requires
 put-counts-requires c κs = lengths (c .before .before .before .before .before .before .before .before .before) .1

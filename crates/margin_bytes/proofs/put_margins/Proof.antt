@@ -43,7 +43,7 @@ write-margins-requires c κs =
     let e = c .before .before in
     let b = start (e .before) in
     let l = b .pre .0 in
-    (l .checks, ap (λ (m : ℕ). take m (b .args .zeros .now)) (l .len-difference) ∙ l .counted (e .if1 .left), l .len-difference, b .pre .1)
+    (l .checks, ap (λ (m : ℕ). take m (b .args .zeros .now)) (l .len-difference) ∙ l .counted (e .if1 .left), l .len-difference, b .pre .1, b .pre .2)
 
 same-length : tie.Need-same-length
 same-length c = search needs

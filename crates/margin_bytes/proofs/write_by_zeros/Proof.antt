@@ -6,7 +6,7 @@ use native.Mathlib.Omega.{arith}
 use lib.ListN.{length}
 use Rattle.model.specs.Bytes.{twos}
 use Rattle.margins.specs.Margins.{read-back}
-use Rattle.margins.specs.Phases.{byZeros, zerosMargin}
+use Rattle.firm_symbols.specs.Phases.{byZeros, zerosMargin}
 use Rattle.margin_bytes.specs.Fronts.{Front, front-none, front-turn, front-all}
 use Rattle.margin_bytes.proofs.write_by_zeros.Statement.{statement}
 use Rattle.margin_bytes.proofs.write_by_zeros.Tie as tie

@@ -9,19 +9,20 @@ use Rattle.model.specs.Code.{Code}
 use Rattle.params.specs.Codes.{codeBy}
 use Rattle.checks.specs.Places.{InBranch, branchOf, branch-next, branch-some, Placed, in-placed, in-later, in-end, Found, found}
 use Rattle.checks.specs.declared.Place.{Place}
+use Rattle.ones.specs.Pages.{bits-at}
 use Rattle.zeros.specs.Counts.{length-zeroCounts}
 use Rattle.margins.specs.Margins.{placed-counted, placed-margin, read-back}
-use Rattle.margins.specs.Phases.{zeros-below}
+use Rattle.firm_symbols.specs.Phases.{zeros-below}
 use Rattle.margin_bytes.specs.Phases.{HeldBytes, bytes-one, bytes-turn, bytes-length}
 use Rattle.margin_bytes.proofs.write_doubtful.Statement.{statement}
 use Rattle.margin_bytes.proofs.write_doubtful.Tie as tie
 
 abbrev Inv-loop : tie.InvT-loop
-Inv-loop each code positions place end zeros s d out₀ first last run next₀ out next =
+Inv-loop bits each code positions place end zeros s d out₀ first last run next₀ out next =
     HeldBytes (codeBy code positions) zeros s d out next × (place .symbol ≤ next) × (next ≤ end)
 
 abbrev μ-loop : tie.MeasureT-loop
-μ-loop each code positions place end zeros s d out₀ first last run next₀ out next = end - next
+μ-loop bits each code positions place end zeros s d out₀ first last run next₀ out next = end - next
 
 -- the start, seen from where the run is taken and from the loop, and the code
 abbrev entry : tie.After-slice-known Inv-loop μ-loop → tie.Start Inv-loop μ-loop
@@ -100,7 +101,9 @@ margin-counted-requires : tie.Need-margin-counted-requires Inv-loop μ-loop
 margin-counted-requires c κs =
     let z = c .before .before in
     let t = turn z in
-    placed-counted (place t) _ refl (placed t .inside) _ (start (t .before) .pre .1) _ _ (z .zeros-with .ensures)
+    let b = start (t .before) in
+    let w = placed-counted (place t) _ refl (placed t .inside) _ (b .pre .1) _ _ (z .zeros-with .ensures) in
+    (w .0, w .1, w .2, bits-at (b .args .bits) (b .args .s .now) (b .args .d .now) (t .before .loop .next) (b .pre .8))
 
 mul-put-word : tie.Need-mul-put-word Inv-loop μ-loop
 mul-put-word c =

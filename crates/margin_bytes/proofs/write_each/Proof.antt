@@ -9,6 +9,7 @@ use Rattle.model.specs.Code.{Code}
 use Rattle.params.specs.Codes.{codeBy}
 use Rattle.checks.specs.Places.{InBranch, AtBranch, branch-first, branch-next, branch-some, Placed, in-placed, in-along, along-less, in-onward, onward-less, onward-fits, same-run, Found, found}
 use Rattle.checks.specs.declared.Place.{Place}
+use Rattle.ones.specs.Pages.{bits-at}
 use Rattle.zeros.specs.Counts.{length-zeroCounts}
 use Rattle.margins.specs.Margins.{marginOf, margins-are, placed-fits, placed-margin, read-back}
 use Rattle.margin_bytes.specs.Fronts.{Front, front-none, front-turn, front-all}
@@ -16,18 +17,18 @@ use Rattle.margin_bytes.proofs.write_each.Statement.{statement}
 use Rattle.margin_bytes.proofs.write_each.Tie as tie
 
 abbrev Inv-loop2 : tie.InvT-loop2
-Inv-loop2 code positions zeros s d out₀ place₀ first last run out place =
+Inv-loop2 bits code positions zeros s d out₀ place₀ first last run out place =
     InBranch (codeBy code positions) place₀ place × Front (marginOf (codeBy code positions) s d) (length d) out (place .symbol)
 
 abbrev μ-loop2 : tie.MeasureT-loop2
-μ-loop2 code positions zeros s d out₀ place₀ first last run out place = place .end - place .symbol
+μ-loop2 bits code positions zeros s d out₀ place₀ first last run out place = place .end - place .symbol
 
 abbrev Inv-loop : tie.InvT-loop
-Inv-loop code positions zeros s d out₀ place₀ out place =
+Inv-loop bits code positions zeros s d out₀ place₀ out place =
     AtBranch (codeBy code positions) place × Front (marginOf (codeBy code positions) s d) (length d) out (place .symbol)
 
 abbrev μ-loop : tie.MeasureT-loop
-μ-loop code positions zeros s d out₀ place₀ out place = length d - place .symbol
+μ-loop bits code positions zeros s d out₀ place₀ out place = length d - place .symbol
 
 -- the start, seen from the loop over branches; that loop, seen from the one over the symbols of a branch; the code
 abbrev start : tie.At-loop Inv-loop2 μ-loop2 Inv-loop μ-loop → tie.Start Inv-loop2 μ-loop2 Inv-loop μ-loop
@@ -105,7 +106,9 @@ margin-at-requires : tie.Need-margin-at-requires Inv-loop2 μ-loop2 Inv-loop μ-
 margin-at-requires c κs =
     let t = c .before .before .before in
     let i = t .before .before in
-    placed-fits (place t) _ (same-run (i .loop2 .inv .0) _) (placed t .inside) _ (start (branches i) .pre .1)
+    let b = start (branches i) in
+    let w = placed-fits (place t) _ (same-run (i .loop2 .inv .0) _) (placed t .inside) _ (b .pre .1) in
+    (w .0, w .1, w .2, bits-at (b .args .bits) (b .args .s .now) (b .args .d .now) (i .loop2 .place .symbol) (b .pre .4))
 
 mul-put-word : tie.Need-mul-put-word Inv-loop2 μ-loop2 Inv-loop μ-loop
 mul-put-word c =

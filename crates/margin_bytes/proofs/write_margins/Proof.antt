@@ -7,7 +7,7 @@ use lib.ListN.{length}
 use Rattle.model.specs.Code.{Code}
 use Rattle.params.specs.Codes.{codeBy}
 use Rattle.zeros.specs.Counts.{length-zeroCounts}
-use Rattle.margins.specs.Phases.{zeros-below}
+use Rattle.firm_symbols.specs.Phases.{zeros-below}
 use Rattle.margin_bytes.specs.Phases.{bytes-first}
 use Rattle.margin_bytes.proofs.write_margins.Statement.{statement}
 use Rattle.margin_bytes.proofs.write_margins.Tie as tie
@@ -45,7 +45,7 @@ write-others-requires c κs =
     let w = c .before .before .before in
     let e = w .before .before in
     let p = start (e .before) .pre in
-    (p .0, p .1, p .2, bytes-first (p .0 .table) _ _ _ _ (p .1) (p .2) _ (e .checks-each .ensures) (w .write-by-zeros .ensures))
+    (p .0, p .1, p .2, bytes-first (p .0 .table) _ _ _ _ (p .1) (p .2) _ (e .checks-each .ensures) (w .write-by-zeros .ensures), p .4)
 
 same-length : tie.Need-same-length
 same-length c = search needs

@@ -11,24 +11,24 @@ use Rattle.checks.specs.Places.{InBranch, AtBranch, branch-first, branch-next, 
 use Rattle.checks.specs.declared.Place.{Place}
 use Rattle.zeros.specs.Counts.{length-zeroCounts}
 use Rattle.margins.specs.Margins.{margins-are}
-use Rattle.margins.specs.Phases.{zeros-below}
+use Rattle.firm_symbols.specs.Phases.{zeros-below}
 use Rattle.margin_bytes.specs.Phases.{HeldBytes, bytes-past, bytes-all, bytes-length}
 use Rattle.margin_bytes.proofs.write_others.Statement.{statement}
 use Rattle.margin_bytes.proofs.write_others.Tie as tie
 
 abbrev Inv-loop2 : tie.InvT-loop2
-Inv-loop2 code positions zeros s d out₀ checks each place₀ out place =
+Inv-loop2 bits code positions zeros s d out₀ checks each place₀ out place =
     InBranch (codeBy code positions) place₀ place × HeldBytes (codeBy code positions) zeros s d out (place .symbol)
 
 abbrev μ-loop2 : tie.MeasureT-loop2
-μ-loop2 code positions zeros s d out₀ checks each place₀ out place = place .end - place .symbol
+μ-loop2 bits code positions zeros s d out₀ checks each place₀ out place = place .end - place .symbol
 
 abbrev Inv-loop : tie.InvT-loop
-Inv-loop code positions zeros s d out₀ checks each place₀ out place =
+Inv-loop bits code positions zeros s d out₀ checks each place₀ out place =
     AtBranch (codeBy code positions) place × HeldBytes (codeBy code positions) zeros s d out (place .symbol)
 
 abbrev μ-loop : tie.MeasureT-loop
-μ-loop code positions zeros s d out₀ checks each place₀ out place = length d - place .symbol
+μ-loop bits code positions zeros s d out₀ checks each place₀ out place = length d - place .symbol
 
 -- the start, seen from the loop over branches; that loop, seen from the one over blocks; the code
 abbrev start : tie.At-loop Inv-loop2 μ-loop2 Inv-loop μ-loop → tie.Start Inv-loop2 μ-loop2 Inv-loop μ-loop
@@ -104,6 +104,7 @@ write-doubtful-requires c κs =
       e .0,
       e .1,
       bytes-past (w .1) (l .before .before .checks-each .ensures) f (omega (arith, p .2, in-end t (w .0))),
+      p .4,
     )
 
 at-requires-2 : tie.Need-at-requires-2 Inv-loop2 μ-loop2 Inv-loop μ-loop

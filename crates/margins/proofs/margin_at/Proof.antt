@@ -77,7 +77,7 @@ margin-counted-requires : tie.Need-margin-counted-requires
 margin-counted-requires c κs =
     let q = c .before .before in
     let p = q .before .before .before .pre in
-    (p .0, p .1, counted q .zero-count)
+    (p .0, p .1, counted q .zero-count, p .3)
 
 returns-3 : tie.Need-returns-3
 returns-3 c = read-back _ (c .margin-counted .ok) ∙ c .margin-counted .ensures

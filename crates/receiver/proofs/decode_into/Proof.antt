@@ -85,11 +85,12 @@ fill-requires c κs =
     let p = decode (done .before) in
     let a = start p .args in
     let lent : State = stateBy (a .result .now) (a .syndrome .now) (a .difference .now) in (
-      p .decode-with .ensures .1 .0 (done .if1 .left),
+      p .decode-with .ensures .1 .0 (done .if1 .left) .0,
       eqb-true (length (a .margins .now)) (a .code .b * a .code .k)
           (and-true (a .others) _
           (decode-opens _ (a .others && eqb (length (a .margins .now)) (a .code .b * a .code .k)) (a .page .now) (a .thresholds .now) lent
           (blocks-taken _ _ (a .page .now) (a .thresholds .now) (a .block) (sym (number p) ∙ done .if1 .left) .0) .0) .1),
+      p .decode-with .ensures .1 .0 (done .if1 .left) .1,
     )
 
 same-length-5 : tie.Need-same-length-5

@@ -9,13 +9,13 @@ use lib.Seq.{length-take-le, take-at}
 use native.Mathlib.Omega.{arith}
 use Rattle.model.specs.Calls.{decodeFits, decodeAnswer}
 use Rattle.model.specs.Decoder.{stateBy}
-use Rattle.params.specs.Codes.{codeBy}
+use Rattle.params.specs.Codes.{codeBy, bits-two}
 use Rattle.theory.specs.Answers.{Taken, decode-taken, decode-opens}
 use Rattle.theory.specs.Counters.{clear-front}
 use Rattle.theory.specs.InBlocks.{Blocks, blocksAnswer, blocks-taken}
 use Rattle.theory.specs.Outcomes.{left-as-lent, left-as-done}
 use Rattle.zeros.specs.Counts.{length-zeroCounts}
-use Rattle.receiver.specs.Received.{countsOf, ranOutcome, left-by}
+use Rattle.receiver.specs.Received.{countsOf, ranOutcome, left-by, low-by}
 use Rattle.receiver.proofs.decode_with.Statement.{statement}
 use Rattle.receiver.proofs.decode_with.Tie as tie
 
@@ -122,10 +122,14 @@ returns-2 c =
     let e = d .correct-page .ensures .0 in (
       left-as-done _ _ _ _ n (λ i. record { state = e i .state; counts = countsOf (e i .tally) }),
       (
-        λ z. left-by code (a .block) (a .page .now) (a .thresholds .now) lent (taken done .opens) (answers done .1) _ _ e (omega (arith, room done, b .pre .0, same-length c))
-            (λ m.
-            let z = d .correct-page .ensures .1 .0 m in
-            take-at _ _ _ (ap length z ∙ length-zeroCounts _ _) ∙ z),
+        λ z. (
+          left-by code (a .block) (a .page .now) (a .thresholds .now) lent (taken done .opens) (answers done .1) _ _ e (omega (arith, room done, b .pre .0, same-length c))
+              (λ m.
+              let z = d .correct-page .ensures .1 .0 m in
+              take-at _ _ _ (ap length z ∙ length-zeroCounts _ _) ∙ z),
+          low-by code (a .block) (a .page .now) (a .thresholds .now) lent (taken done .opens) (answers done .1) _ e (a .bits)
+              (λ y. bits-two (a .code .bits) (a .code .q) (taken done .opens .high) (sym (b .pre .4) ∙ y)),
+        ),
         d .correct-page .ensures .1 .1,
       ),
     )

@@ -5,7 +5,8 @@ use mathlib.Core.Path.{_≡_, sym, _∙_}
 use Rattle.model.specs.Calls.{firstThatApplies}
 use Rattle.params.specs.Codes.{codeBy}
 use Rattle.theory.specs.Answers.{refused-by, passed-by, nothing-applies}
-use Rattle.table.specs.Table.{shapeTests, sized-answer, unsized-answer, shape-taken, fitting-limits}
+use Rattle.limits.specs.Sizes.{shapeTests}
+use Rattle.table.specs.Table.{sized-answer, unsized-answer, shape-taken, fitting-limits}
 use Rattle.table.proofs.shape_answer.Statement.{statement}
 use Rattle.table.proofs.shape_answer.Tie as tie
 

@@ -1,0 +1,2 @@
+-- Margins in two phases, and blocks that are passed over.
+pub mod Phases

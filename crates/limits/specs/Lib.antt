@@ -1,0 +1,2 @@
+-- What the contracts of the limits name.
+pub mod Sizes
