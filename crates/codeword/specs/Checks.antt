@@ -6,7 +6,7 @@ use native.Mathlib.Nat.{mod-add-mod}
 use native.Mathlib.Omega.{arith}
 use borrow.Rule.Slice.PartMut.{putMid, post-is}
 use lib.ListN.{length, getD, take, drop, length-append, length-take, length-drop}
-use lib.Seq.{take-all, take-at, take-take, drop-length, length-take-le}
+use lib.Seq.{take-all, take-at, drop-at, take-take, drop-length, length-take-le}
 use Rattle.model.specs.Symbols.{add, sub, tabulate, subEach}
 use Rattle.model.specs.Code.{Code, dataCount, pageLength, checkSymbol, checkSymbols, codeWord, dataOf, syndrome}
 use Rattle.model.specs.Limits.{TableLimits}
@@ -35,7 +35,7 @@ module _ (c : Code) (l : TableLimits c) (u : List ℕ) (whole : c .k ≤ length 
       ∙ ap (λ (n : ℕ). getD (take (c .k) u) (sub n i (getD (c .positions) 0 0)) 0) (length-take-le (c .k) u whole)
 
   -- from that row on, the rest makes the check symbols
-  checks-written : added (c .q) (restSum c u (c .b)) (firstRow c u) ≡ checkSymbols c u
+  pub checks-written : added (c .q) (restSum c u (c .b)) (firstRow c u) ≡ checkSymbols c u
   unfolding added add checkSymbols checkSymbol
   checks-written =
       ap (λ (n : ℕ). tabulate n (λ i. (getD (firstRow c u) i 0 + restSum c u (c .b) i) % c .q)) first-length
@@ -65,6 +65,12 @@ syndrome-written c l page n len e = rw (
   take-all (length page - dataCount c) (drop (dataCount c) page) (simp length-drop (omega arith)),
   sym (take-take (c .k) (dataCount c) page (one-branch c l)),
 ) (less-written c l (dataOf c page) (simp length-take (omega (arith, one-branch c l))) (drop (dataCount c) page))
+
+-- the same, of data u and checks v that are lent apart
+pub syndrome-over : (c : Code) (l : TableLimits c) (u v : List ℕ) → length u ≡ dataCount c
+    → added (c .q) (restSum c u (c .b)) (subEach (c .q) (row (getD (c .positions) 0 0) (take (c .k) u)) v) ≡ syndrome c (u ++ v)
+unfolding syndrome
+syndrome-over c l u v len = rw (take-at u v (dataCount c) len, drop-at u v (dataCount c) len) (less-written c l u (omega (arith, one-branch c l)) v)
 
 -- the page that holds v at its front, with cs written from the end of v on
 front-written : (u v rest cs ds : List ℕ) → v ≡ u → cs ≡ ds → putMid (length u) (length (v ++ rest) - length u) (v ++ rest) cs ≡ u ++ ds

@@ -141,22 +141,22 @@ module _ (c : Code) (l : TableLimits c) where
   )
 
 -- what the rows of branch r are added to, and what that makes
-module _ (c : Code) (b : ByteCode c) (u : List ℕ) (w : SymbolsBelow (c .q) (dataCount c) u) (r : ℕ) (run part : List ℕ) (t : Lent c u r run part) where
+module _ (c : Code) (l : TableLimits c) (u : List ℕ) (whole : length u ≡ dataCount c) (r : ℕ) (run part : List ℕ) (t : Lent c u r run part) where
   lent-length : length part ≡ c .k
   lent-length =
       ap length (t .data-is)
-      ∙ length-take-le (c .k) (drop (r * c .k) u) (omega (arith, length-drop (r * c .k) u, branch-inside c r (t .here), w .len))
+      ∙ length-take-le (c .k) (drop (r * c .k) u) (omega (arith, length-drop (r * c .k) u, branch-inside c r (t .here), whole))
 
-  pub lent-asks : (s : List ℕ) → SymbolsBelow (c .q) (c .k) s
-      → (2 ≤ c .q) × (c .q ≤ 256) × Ascending (length part) run × Below (c .q) part × SymbolsBelow (c .q) (length part) s
+  pub lent-rows : (s : List ℕ) → SymbolsBelow (c .q) (c .k) s → Ascending (length part) run × SymbolsBelow (c .q) (length part) s
   unfolding restOf
-  lent-asks s h = (
-    b .q-low,
-    b .q-high,
-    rw (lent-length, t .run-is) (ascending-drop (c .k) (branchAt c r) (same r 0) (b .table .ascending r (t .here))),
-    subst (Below (c .q)) (sym (t .data-is)) (below-part (c .q) (omega (arith, b .q-low)) (r * c .k) (c .k) u (w .low)),
-    rw lent-length h,
-  )
+  lent-rows s h = (rw (lent-length, t .run-is) (ascending-drop (c .k) (branchAt c r) (same r 0) (l .ascending r (t .here))), rw lent-length h)
 
   pub rest-added : (s₀ s : List ℕ) → s ≡ added (c .q) (restSum c u r) s₀ → added (c .q) (checkSumBy (length part) run part) s ≡ added (c .q) (restSum c u (r + 1)) s₀
   rest-added s₀ s e = rw (lent-length, t .run-is, t .data-is, e) (rest-turn c u r s₀)
+
+-- what adding them asks, where symbols are bytes
+pub lent-asks : (c : Code) (b : ByteCode c) (u : List ℕ) (w : SymbolsBelow (c .q) (dataCount c) u) (r : ℕ) (run part : List ℕ) (t : Lent c u r run part) (s : List ℕ) → SymbolsBelow (c .q) (c .k) s
+    → (2 ≤ c .q) × (c .q ≤ 256) × Ascending (length part) run × Below (c .q) part × SymbolsBelow (c .q) (length part) s
+lent-asks c b u w r run part t s h =
+    let n = lent-rows c (b .table) u (w .len) r run part t s h in
+    (b .q-low, b .q-high, n .0, subst (Below (c .q)) (sym (t .data-is)) (below-part (c .q) (omega (arith, b .q-low)) (r * c .k) (c .k) u (w .low)), n .1)

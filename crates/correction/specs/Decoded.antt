@@ -4,18 +4,18 @@ use mathlib.Core.List.{List}
 use Prim.Native.Nat.{ℕ, _+_, _≤_}
 use native.Mathlib.Omega.{arith}
 use lib.ListN.{length}
-use Rattle.model.specs.Code.{highest, Code, dataCount, checksOf}
+use Rattle.model.specs.Code.{Code, dataCount, pageLength, checksOf}
 use Rattle.model.specs.Decoder.{State, changeCount, passes, none, thresholdsRun, dataSymbols, opened, passesOf, run, distanceTo, Counts, decodedState, decodedCounts, stateWeight}
 use Rattle.model.specs.Symbols.{weight}
-use Rattle.theory.specs.Answers.{Opens}
-use Rattle.theory.specs.Codes.{code-incidence}
+use Rattle.theory.specs.Codes.{Usable, code-incidence}
 use Rattle.theory.specs.Counting.{zeros-weight}
 use Rattle.theory.specs.Decoding.{code-opened-sized, code-distance, code-idle, code-minima}
 use Rattle.theory.specs.Falling.{InRange, after-sized}
 use Rattle.theory.specs.Runs.{range-passes, symbols-range}
 use Rattle.theory.specs.Schedule.{minima}
+use Rattle.theory.specs.Steps.{SymbolsBelow}
 use Rattle.passes.specs.Runs.{ran, passesFrom, runOf}
-use Rattle.visits.specs.Progress.{Progress, Ready}
+use Rattle.visits.specs.Progress.{Progress, ReadyIn}
 use Rattle.tally.specs.declared.Tally.{Tally}
 
 -- the counts as the tally has them
@@ -38,9 +38,9 @@ weights-small xs ys a b = omega (arith, zeros-weight xs, zeros-weight ys)
 
 -- ---- the opened page
 
-module _ (c : Code) (page : List ℕ) (lent : State) (o : Opens c page lent) where
-  pub opened-ready : highest (c .profile) ≤ 256 → Ready c (opened c page)
-  opened-ready h = record { usable = o .usable; bytes = omega (arith, o .high); sized = code-opened-sized c (o .usable) page (o .whole) }
+module _ (c : Code) (page : List ℕ) (u : Usable c) (whole : SymbolsBelow (c .q) (pageLength c) page) where
+  pub opened-ready : {w : ℕ} → c .q ≤ w → ReadyIn w c (opened c page)
+  opened-ready h = record { usable = u; bytes = h; sized = code-opened-sized c u page whole }
 
   range : (ts : List ℕ) → InRange (dataCount c) (run c ts page)
   unfolding run
@@ -49,18 +49,18 @@ module _ (c : Code) (page : List ℕ) (lent : State) (o : Opens c page lent) whe
   -- after the run the distance is the weight of D and S
   pub decoded-distance : (ts : List ℕ) → stateWeight (decodedState c ts page) ≡ distanceTo c page (decodedState c ts page)
   unfolding decodedState
-  decoded-distance ts = sym (code-distance c (o .usable) page (o .whole) (run c ts page) (range ts))
+  decoded-distance ts = sym (code-distance c u page whole (run c ts page) (range ts))
 
   -- a page at distance 0: every pass is idle
   pub clean-decoded : distanceTo c page (opened c page) ≡ 0 → (ts : List ℕ) (n : ℕ) → n ≡ length (minima none ts)
       → _≡_ {A = Progress} (record { state = opened c page; tally = record { passes = n; changes = 0; start = 0; end = 0 } }) (decoded c ts page)
   unfolding decodedState decodedCounts
   clean-decoded z ts n e =
-      let i = code-idle c (o .usable) page (o .whole) z (run c ts page) (range ts) in
+      let i = code-idle c u page whole z (run c ts page) (range ts) in
       λ x. record {
         state = sym (i .0) x;
         tally = record {
-          passes = (e ∙ ap length (sym (code-minima c (o .usable) page (o .whole) z ts))) x;
+          passes = (e ∙ ap length (sym (code-minima c u page whole z ts))) x;
           changes = sym (i .1) x;
           start = sym z x;
           end = sym (ap (distanceTo c page) (i .0) ∙ z) x;
@@ -88,9 +88,9 @@ module _ (c : Code) (page : List ℕ) (lent : State) (o : Opens c page lent) whe
     pub run-lengths : (length (x .state .difference) ≤ 4096) × (length (x .state .syndrome) ≤ 4096)
     unfolding runOf passesFrom ran
     run-lengths =
-        let z = after-sized (code-incidence c (o .usable)) (passes (dataSymbols c) (thresholdsRun (c .q) (checksOf c) (dataSymbols c) none ts (opened c page)))
-        (opened c page) (code-opened-sized c (o .usable) page (o .whole)) in
-        let l = o .usable .table .sizes in
+        let z = after-sized (code-incidence c u) (passes (dataSymbols c) (thresholdsRun (c .q) (checksOf c) (dataSymbols c) none ts (opened c page)))
+        (opened c page) (code-opened-sized c u page whole) in
+        let l = u .table .sizes in
         rw f (omega (arith, z .len-difference, l .data-high), omega (arith, z .len-syndrome, l .k-high))
 
     -- it is the decode: e is the weight of D and S that it leaves

@@ -18,7 +18,7 @@ fn is_open(each: usize, threshold: u8, own: u8, zeros: u8) -> bool
 }
 
 // A number of zeros at its checks that settles a data symbol's visit, whatever its own difference is.
-fn settling(each: usize, threshold: u8) -> usize
+pub fn settling(each: usize, threshold: u8) -> usize
     ensures { λ r. ⌜ Settling each threshold r ⌝ }
 {
     let t = threshold as usize;
@@ -123,7 +123,7 @@ fn least_of(zeros: &[u8]) -> u8
 }
 
 // From a data symbol on, in blocks of 64, past those in which every symbol has so many zeros at its checks.
-fn past_blocks(bound: usize, zeros: &[u8], from: usize, end: usize) -> usize
+pub fn past_blocks(bound: usize, zeros: &[u8], from: usize, end: usize) -> usize
     requires { ⌜ (from ≤ end) × (end ≤ length (now zeros)) ⌝ }
     ensures { λ r. ⌜ Past bound (now (zeros .entry)) from end r ⌝ }
 {
@@ -138,7 +138,7 @@ fn past_blocks(bound: usize, zeros: &[u8], from: usize, end: usize) -> usize
 }
 
 // Where the next 32 data symbols end, or the end.
-fn end_near(from: usize, end: usize) -> usize
+pub fn end_near(from: usize, end: usize) -> usize
     requires { ⌜ from ≤ end ⌝ }
     ensures { λ r. ⌜ (from ≤ r) × (r ≤ end) × (from < end → from < r) ⌝ }
 {

@@ -18,7 +18,7 @@ use Rattle.theory.specs.Falling.{visit-sized}
 use Rattle.theory.specs.Runs.{after-append, changes-append}
 use Rattle.theory.specs.Schedule.{followed}
 use Rattle.theory.specs.Turns.{pass-turn, pass-count-turn}
-use Rattle.visits.specs.Progress.{Progress, counted, both, with-changes, visitOf, Ready}
+use Rattle.visits.specs.Progress.{Progress, counted, both, with-changes, visitOf, ReadyIn}
 use Rattle.schedule.specs.Thresholds.{drop-more}
 use Rattle.tally.specs.declared.Tally.{Tally}
 
@@ -179,15 +179,18 @@ module _ (c : Code) (n i j : ℕ) (ths : List ℕ) (p x : Progress) (h : i < len
 -- ---- what visits keep
 
 -- ready still, and at most n changes more
-pub record Kept (c : Code) (n : ℕ) (p x : Progress) : Type 0 where
-  pub ready : Ready c (x .state)
+pub record KeptIn (w : ℕ) (c : Code) (n : ℕ) (p x : Progress) : Type 0 where
+  pub ready : ReadyIn w c (x .state)
   pub few : x .tally .changes ≤ p .tally .changes + n
+
+abbrev pub Kept : Code → ℕ → Progress → Progress → Type 0
+Kept c n p x = KeptIn 256 c n p x
 
 bit-le : (b : Bool) → bit b ≤ 1
 bit-le true = omega arith
 bit-le false = omega arith
 
-visits-kept : (c : Code) (t n : ℕ) (p : Progress) → Ready c (p .state) → Kept c n p (visits c t n p)
+visits-kept : {w : ℕ} (c : Code) (t n : ℕ) (p : Progress) → ReadyIn w c (p .state) → KeptIn w c n p (visits c t n p)
 unfolding visits visitOf
 visits-kept c t zero p r = record { ready = r; few = omega arith }
 visits-kept c t (suc n) p r =
@@ -202,5 +205,5 @@ visits-kept c t (suc n) p r =
       few = omega (arith, k .few, bit-le (changes (checksOf c) v (visits c t n p .state)));
     }
 
-pub kept-by : (c : Code) (t n : ℕ) (p x : Progress) → Ready c (p .state) → x ≡ visits c t n p → Kept c n p x
+pub kept-by : {w : ℕ} (c : Code) (t n : ℕ) (p x : Progress) → ReadyIn w c (p .state) → x ≡ visits c t n p → KeptIn w c n p x
 kept-by c t n p x r e = rw e (visits-kept c t n p r)

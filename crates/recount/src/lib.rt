@@ -26,7 +26,7 @@ fn recount_run(code: Params, positions: &[u16], c: usize, gained: u8, lost: u8, 
 
 // v written at check c of the syndrome. Where that makes or ends a zero, the count of each data symbol in that check follows,
 // branch by branch; a run has `each` positions.
-fn write_check(
+pub fn write_check(
     code: Params,
     positions: &[u16],
     each: usize,

@@ -122,6 +122,12 @@ module _ (p : ℕ) (s u : List ℕ) (same : length s ≡ length u) (h : p < leng
       ∙ sym (listed (length s) (λ i. sub q (getD u (sub (length u) i p) 0) (getD v i 0)) (subEach q (row p u) v) (less-length q (row p u) v ∙ row-length p u ∙ sym same)
       (λ i l. less-at q (row p u) v i _ _ (omega (arith, row-length p u)) (row-at p u i (omega arith)) refl))
 
+  -- and less s itself
+  pub lessened-row : (q : ℕ) (r t : List ℕ) → r ≡ subEach q (take (length u - p) u) (take (length s - p) (drop p s))
+      → t ≡ subEach q (take (length u - (length u - p)) (drop (length u - p) u)) (take p (putMid p (length s - p) s r))
+      → t ++ drop p (putMid p (length s - p) s r) ≡ subEach q (row p u) s
+  lessened-row q r t d e = copied-less q s same r t d (e ∙ ap (subEach q (take (length u - (length u - p)) (drop (length u - p) u))) (lead p s (omega arith) r))
+
   -- the row of p added to s
   sum-of-row : (q : ℕ) → addEach q s (row p u) ≡ tabulate (length s) (withRow q p s u)
   sum-of-row q = listed (length s) (withRow q p s u) (addEach q s (row p u)) (each-length q s (row p u)) (λ i l. sum-at q s (row p u) i _ _ l refl (row-at p u i (omega arith)))

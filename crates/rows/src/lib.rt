@@ -27,8 +27,8 @@ pub fn copy_row_less(q: u32, p: usize, dst: &mut [u8], src: &[u8], less: &[u8])
     ensures { λ _. ⌜ now (dst .exit) ≡ subEach q (row p (now (src .entry))) (now (less .entry)) ⌝ }
 {
     let rest = src.len() - p;
-    symbols::sub_into(q, &mut dst[p..], &src[..rest], &less[p..]);
-    symbols::sub_into(q, &mut dst[..p], &src[rest..], &less[..p]);
+    sums::sub_into(q, &mut dst[p..], &src[..rest], &less[p..]);
+    sums::sub_into(q, &mut dst[..p], &src[rest..], &less[..p]);
 }
 
 // The row of p added to acc, in two straight runs.
@@ -37,8 +37,8 @@ pub fn add_row(q: u32, p: usize, acc: &mut [u8], src: &[u8])
     ensures { λ _. ⌜ now (acc .exit) ≡ addEach q (now (acc .entry)) (row p (now (src .entry))) ⌝ }
 {
     let rest = src.len() - p;
-    symbols::add_into(q, &mut acc[p..], &src[..rest]);
-    symbols::add_into(q, &mut acc[..p], &src[rest..]);
+    sums::add_into(q, &mut acc[p..], &src[..rest]);
+    sums::add_into(q, &mut acc[..p], &src[rest..]);
 }
 
 // src from a on and src from b on, added to acc as far as acc reaches.
@@ -52,7 +52,7 @@ fn add_two_parts(q: u32, acc: &mut [u8], src: &[u8], a: usize, b: usize)
     ensures { λ _. ⌜ now (acc .exit) ≡ withTwoParts q a b (now (acc .entry)) (now (src .entry)) ⌝ }
 {
     let n = acc.len();
-    symbols::add_two_into(q, acc, &src[a..a + n], &src[b..b + n]);
+    sums::add_two_into(q, acc, &src[a..a + n], &src[b..b + n]);
 }
 
 // The rows of p and r added to the checks before r, which are acc: those from p on, then those before p.

@@ -43,13 +43,17 @@ with-changes t e = λ i. record { passes = t .passes; changes = e i; start = t .
 
 -- ---- what a visit requires
 
--- a state of bytes that the decoder of a usable code works on
-pub record Ready (c : Code) (st : State) : Type 0 where
+-- a state that the decoder of a usable code works on, whose symbols have w values at most
+pub record ReadyIn (w : ℕ) (c : Code) (st : State) : Type 0 where
   pub usable : Usable c
-  pub bytes : c .q ≤ 256
+  pub bytes : c .q ≤ w
   pub sized : Sized (c .q) (dataCount c) (checkCount c) st
 
-pub at-table : (c : Code) (st : State) → Ready c st → AtTable c (st .syndrome)
+-- of bytes
+abbrev pub Ready : Code → State → Type 0
+Ready c st = ReadyIn 256 c st
+
+pub at-table : {w : ℕ} (c : Code) (st : State) → ReadyIn w c st → AtTable c (st .syndrome)
 at-table c st r = record { table = r .usable .table; len = r .sized .len-syndrome }
 
 -- where q is 2 it is a state of bits
@@ -57,15 +61,15 @@ pub ready-bits : (c : Code) (st : State) → Ready c st → (bits : Bool) → (b
 ready-bits c st r bits h j = bits-low bits (c .q) (getD (st .difference) j 0) (st .syndrome) h (r .sized .in-difference j) (r .sized .in-syndrome)
 
 -- what is subtracted is a symbol
-pub ready-subtract : (c : Code) (st : State) → Ready c st → (t j : ℕ) → toSubtract t (estimatesAt c j (getD (st .difference) j 0) (st .syndrome)) < c .q
+pub ready-subtract : {w : ℕ} (c : Code) (st : State) → ReadyIn w c st → (t j : ℕ) → toSubtract t (estimatesAt c j (getD (st .difference) j 0) (st .syndrome)) < c .q
 unfolding estimates
 ready-subtract c st r t j =
     let pos : 0 < c .q = omega (arith, r .usable .q-low) in
     subtract-below (c .q) pos t (estimates (checksOf c j) j st) (below-estimates (c .q) pos (checksOf c j) j st (r .sized .in-difference) (r .sized .in-syndrome))
 
 -- what a subtraction of h from data symbol j asks
-pub ready-symbol : (c : Code) (st : State) → Ready c st → (j h : ℕ) → j < dataCount c → h < c .q
-    → (c .q ≤ 256) × (h < c .q) × (j < length (st .result)) × (j < length (st .difference)) × (getD (st .result) j 0 < c .q) × (getD (st .difference) j 0 < c .q)
+pub ready-symbol : {w : ℕ} (c : Code) (st : State) → ReadyIn w c st → (j h : ℕ) → j < dataCount c → h < c .q
+    → (c .q ≤ w) × (h < c .q) × (j < length (st .result)) × (j < length (st .difference)) × (getD (st .result) j 0 < c .q) × (getD (st .difference) j 0 < c .q)
 ready-symbol c st r j h a b =
     let z = r .sized in
     (r .bytes, b, omega (arith, z .len-result), omega (arith, z .len-difference), z .in-result j, z .in-difference j)

@@ -13,7 +13,6 @@ ghost use Rattle.model.specs.Symbols.{sub, count};
 ghost use Rattle.params.specs.Codes.{codeBy};
 ghost use Rattle.theory.specs.Counters.{Clear};
 ghost use Rattle.vote.specs.Leading.{voteOf};
-ghost use Rattle.vote.specs.Others.{others};
 ghost use Rattle.checks.specs.Checks.{AtChecks, estimatesBy};
 ghost use Rattle.checks.specs.Places.{Placed};
 ghost use Rattle.ones.specs.Pages.{InBits};
@@ -21,17 +20,6 @@ ghost use Rattle.zeros.specs.Counts.{zeroCounts};
 ghost use Rattle.open_symbols.specs.Settled.{Open};
 ghost use Rattle.visits.specs.Decisions.{toSubtract};
 ghost use Rattle.visits.specs.Progress.{progress, Ready, visitOf};
-
-// The largest count of a value other than 0 among the estimates of symbol j of a branch, whose run of positions is lent and whose own difference is given.
-pub fn most_other_at(code: Params, positions: &[u16], j: usize, own: u8, s: &[u8]) -> u8
-    requires { ⌜ AtChecks (code .k) (now positions) (now s) × (j < code .k) ⌝ }
-    ensures { λ r. ⌜ r ≡ others (estimatesBy (code .k) (now (positions .entry)) j own (now (s .entry))) ⌝ }
-{
-    let n = positions.len() + 1;
-    let mut found = [0u8; 33];
-    checks::gather(code, positions, j, own, s, &mut found[..n]);
-    vote::most_other(&found[..n])
-}
 
 // h subtracted from symbol j of the result and of the difference.
 fn subtract_symbol(code: Params, j: usize, h: u8, result: &mut [u8], difference: &mut [u8])

@@ -78,7 +78,7 @@ sums-are h =
     let b = start m in
     h .loop .inv .1 (b .args .sums .now)
     (h .before .before .before .add-rows .ensures
-    ∙ rest-added (code b) (b .pre .0) _ (b .pre .1) 0 _ _ (first-lent (code b) (b .pre .0 .table) _ (m .checks-each .ensures) _) _ _ (rest-none (code b) _ _ _ (b .pre .2)))
+    ∙ rest-added (code b) (b .pre .0 .table) _ (b .pre .1 .len) 0 _ _ (first-lent (code b) (b .pre .0 .table) _ (m .checks-each .ensures) _) _ _ (rest-none (code b) _ _ _ (b .pre .2)))
 
 sums-below : (h : tie.At-loop Inv-loop μ-loop)
     → let x = start (known h) .args in
@@ -168,7 +168,7 @@ loop-again c =
     let m = known h in
     let b = start m in (
       stands-next _ (b .pre .0 .table) _ (m .checks-each .ensures) _ _ _ (more t) (h .loop .inv .0),
-      λ s e. c .before .before .add-rows2 .ensures ∙ rest-added (code b) (b .pre .0) _ (b .pre .1) (h .loop .r) _ _ (lent t) s _ (h .loop .inv .1 s e),
+      λ s e. c .before .before .add-rows2 .ensures ∙ rest-added (code b) (b .pre .0 .table) _ (b .pre .1 .len) (h .loop .r) _ _ (lent t) s _ (h .loop .inv .1 s e),
     )
 
 same-length : tie.Need-same-length Inv-loop μ-loop

@@ -50,7 +50,7 @@ returns c =
     let a = b .args in
     rw (c .passed .ensures, c .before .opened .ensures) (
       both (o .open-page .ensures .0) refl
-          ∙ clean-decoded (codeBy (a .code) (a .positions .now)) (a .page .now) _ (b .pre .0 .opens) (sym (o .open-page .ensures .1) ∙ clean .if1 .taken) (a .thresholds .now) _ (c .before .before .idle-passes .ensures),
+          ∙ clean-decoded (codeBy (a .code) (a .positions .now)) (a .page .now) (b .pre .0 .opens .usable) (b .pre .0 .opens .whole) (sym (o .open-page .ensures .1) ∙ clean .if1 .taken) (a .thresholds .now) _ (c .before .before .idle-passes .ensures),
       (λ n. absurd (n refl), refl),
     )
 
@@ -64,7 +64,8 @@ run-requires c κs =
     let b = start o in
     let a = b .args in
     let code = codeBy (a .code) (a .positions .now) in (
-      subst (λ (st : State). Ready code st) (sym (o .open-page .ensures .0)) (opened-ready code (a .page .now) _ (b .pre .0 .opens) (in-bytes (a .code .bits))),
+      subst (λ (st : State). Ready code st) (sym (o .open-page .ensures .0))
+          (opened-ready code (a .page .now) (b .pre .0 .opens .usable) (b .pre .0 .opens .whole) (let h = in-bytes (a .code .bits) in omega (arith, h, b .pre .0 .opens .high))),
       b .pre .0 .few,
       ap (λ (t : Tally). t .changes) (t .opened2 .ensures),
       b .pre .1,
@@ -91,7 +92,7 @@ state-weight-requires c κs =
     let o = opening (r .before .before .before .before .before .before .before) in
     let b = start o in
     let a = b .args in
-    run-lengths (codeBy (a .code) (a .positions .now)) (a .page .now) _ (b .pre .0 .opens) (a .thresholds .now) _ _ (r .run .ensures .0 ∙ from-opened r)
+    run-lengths (codeBy (a .code) (a .positions .now)) (a .page .now) (b .pre .0 .opens .usable) (b .pre .0 .opens .whole) (a .thresholds .now) _ _ (r .run .ensures .0 ∙ from-opened r)
 
 ended-requires : tie.Need-ended-requires
 ended-requires c κs = search needs
@@ -127,7 +128,7 @@ returns-2 c =
     let a = b .args in
     let code = codeBy (a .code) (a .positions .now) in (
       rw (c .ended .ensures)
-          (run-decoded code (a .page .now) _ (b .pre .0 .opens) (a .thresholds .now) _ _ (r .run .ensures .0 ∙ from-opened r) _ (o .open-page .ensures .1) (w .state-weight .ensures)),
+          (run-decoded code (a .page .now) (b .pre .0 .opens .usable) (b .pre .0 .opens .whole) (a .thresholds .now) _ _ (r .run .ensures .0 ∙ from-opened r) _ (o .open-page .ensures .1) (w .state-weight .ensures)),
       (λ n. r .run .ensures .1 .0, r .run .ensures .1 .1),
     )
 

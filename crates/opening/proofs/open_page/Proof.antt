@@ -62,7 +62,7 @@ returns c =
     let s = written .write-syndrome .ensures in (
       opened-by code (a .page .now) _ _ _ (copied .copy-into .ensures ∙ ap (λ (n : ℕ). take n (a .page .now)) (counted .data-count .ensures)) s
           (cleared .clear .ensures ∙ ap (λ (n : ℕ). tabulate n (λ i. 0)) (b .pre .len-difference)),
-      c .weight-of .ensures ∙ ap weight s ∙ opened-distance code (a .page .now) _ (b .pre),
+      c .weight-of .ensures ∙ ap weight s ∙ opened-distance code (a .page .now) (b .pre .usable) (b .pre .whole),
     )
 
 pub open-page-spec : {M : Type 1} → statement M
