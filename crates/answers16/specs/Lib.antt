@@ -1,0 +1,2 @@
+-- The code of symbols of two bytes.
+pub mod Own

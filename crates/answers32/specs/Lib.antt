@@ -1,0 +1,2 @@
+-- The code of symbols of four bytes.
+pub mod Own

@@ -1,0 +1,2 @@
+-- What the decoders of wide symbols share.
+pub mod Marks

@@ -1,0 +1,1 @@
+// Specs only: what the decoders of wide symbols share.

@@ -1,0 +1,1 @@
+// Specs only: what the calls on wide symbols share.

@@ -1,0 +1,1 @@
+// Specs only: the margins of wide symbols by the marks of D.

@@ -1,0 +1,3 @@
+-- What the wide vote tells, and the turns of its loops.
+pub mod Leading
+pub mod Lows
