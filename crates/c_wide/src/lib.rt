@@ -1,0 +1,1 @@
+// What the C forms of the calls on wide symbols share: laws alone.

@@ -1,0 +1,2 @@
+-- The number of two bytes.
+pub mod Two

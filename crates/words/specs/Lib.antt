@@ -1,0 +1,2 @@
+-- The number of four bytes.
+pub mod Four
