@@ -1,7 +1,9 @@
-"""What the examples charger.c, branches.c and outer.c print, by the reference program: the same data, damage and layout,
-but the code words, the decodes and the counts are those of reference.py. `screen.py` does so for screen.c."""
+"""What the examples charger.c, branches.c, outer.c and cells.c print, by the reference program: the same data, damage and
+layout, but the code words, the decodes and the counts are those of reference.py, for cells.c of wide.py. `screen.py` does
+so for screen.c."""
 
 import reference as ref
+import wide
 from screen import draws
 
 
@@ -146,4 +148,54 @@ def outer():
     lines += ["", "The charger has another block length than the pack:",
               f"  refused with {number}: 6 does not divide {k}. One that does would be taken: the page does not hold "
               "it."]
+    return text(lines)
+
+
+def cells():
+    """16-bit readings in two branches: damage within the bound, damage beyond it, a page with a byte lost."""
+    w, k, b, line = 2, 27, 2, 9
+    runs = [[0, 3, 7, 8], [0, 9, 11, 21]]
+    code = w, k, b, ref.table_of(*runs)
+    thresholds = [1, 1] + [0] * 6
+    sent = [3650 + 37 * i % 90 - (800 if i == 40 else 0) for i in range(b * k)]
+    number, page = wide.encode(*code, wide.packed(w, sent), w * (b + 1) * k)
+    assert number == 0
+
+    def wrong(name, readings):
+        differ = sum(given != due for given, due in zip(readings, sent))
+        out = [i for i, reading in enumerate(readings) if not 2800 <= reading <= 4200]
+        first = "".join(f", first {readings[i]} mV of cell {i % k}, string {i // k}" for i in out[:1])
+        return f"  {name}: wrong readings {differ}, out of limits {len(out)}{first}"
+
+    def decoded(received):
+        number, got = wide.decode(*code, received, thresholds, *wide.decode_lengths(w, k, b))
+        assert number == 0
+        weak = sum(margin <= 0 for margin in got.margins)
+        return got, [wrong("received", wide.unpacked(w, received)[:b * k]), wrong("decoded ", got.result),
+                     f"  {counts_line(got.counts)}, readings with a margin of 0 or less: {weak}"]
+
+    lines = [f"{w * len(page)} bytes for {b * k} readings in millivolts and {k} checks:"]
+    for at in range(0, b * k, line):
+        name = f"  string {at // k}" if at % k == 0 else " " * 10
+        lines.append(name + "".join(f" {reading:5}" for reading in sent[at:at + line]))
+    lines += [f"  check 0 is {page[b * k]}, the sum of {sum(map(len, runs))} readings modulo 65536"]
+
+    received = bytearray(wide.packed(w, page))
+    received[w * 17 + 1] ^= 0x80
+    check = w * (b * k + 5)
+    received[check:check + w] = bytes(w)
+    got, text_of = decoded(bytes(received))
+    assert got.result == sent
+    lines += ["", "The lead inverts the highest bit of a reading and clears a check:", *text_of,
+              "  Two symbols are within the bound: these are the monitor's readings."]
+
+    received = bytearray(wide.packed(w, page))
+    received[w * 30:w * 38] = b"\xff" * (w * 8)
+    got, text_of = decoded(bytes(received))
+    lines += ["", "A burst sets 16 bytes to 255, eight readings in a row:", *text_of,
+              "  Eight symbols are beyond the bound: the call cannot tell whether all are right."]
+
+    number, _ = wide.decode(*code, bytes(received[:-1]), thresholds, *wide.decode_lengths(w, k, b))
+    lines += ["", "The last byte is lost:",
+              f"  refused with {number}: the page ends within a symbol. Nothing was written."]
     return text(lines)

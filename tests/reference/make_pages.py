@@ -1,11 +1,12 @@
-"""Makes the reference pages, data/pages.bin in the crate of each program that runs some, what the program must print of
-them, and what the examples charger.c, branches.c, outer.c and screen.c must print.
+"""Makes the reference pages, data/pages.bin in the crate of each program that runs some, and long_pages.bin beside this
+file; what the programs must print of them; and what the examples charger.c, branches.c, outer.c, cells.c and screen.c
+must print.
 
     make_pages.py            write the files
     make_pages.py --check    compare them, byte for byte
 
-Every expected byte comes from reference.py and bits.py, which first try themselves on pages worked out by hand, those
-of document 01 among them. README.md beside this file has the format.
+Every expected byte comes from reference.py, bits.py and wide.py, which first try themselves on pages worked out by hand,
+those of document 01 among them. README.md beside this file has the format.
 """
 
 import itertools
@@ -16,6 +17,7 @@ import bits
 import examples
 import reference as ref
 import screen
+import wide
 from codes import LINES, SINGER, WIDEST, Random, greedy, greedy_runs, positions_for, runs_for, singer
 from records import (CHECK_TABLE, DECODE, DECODE_COUNTERS, DECODE_OUTER, ENCODE, ENCODE_OUTER, EXPLAIN, OPEN, PASS,
                      SYNDROME, Pages)
@@ -28,11 +30,12 @@ ALPHABETS = [3, 4, 5, 7, 10, 16, 17, 100, 127, 128, 129, 200, 251, 255, 256]
 GROUPS = []
 
 
-def group(name, c_only=False):
+def group(name, c_only=False, long=False):
     """Adds a group: the function below it adds its pages. The random numbers hang on the group's place in the order, so
-    a new group comes last. `c_only`: its calls can be made in C alone."""
+    a new group comes last. `c_only`: its calls can be made in C alone. `long`: its records are longer than the Rattle
+    programs read, and go to a file of their own, which C alone reads."""
     def add(function):
-        GROUPS.append((name, c_only, function))
+        GROUPS.append((name, c_only, long, function))
         return function
     return add
 
@@ -784,13 +787,14 @@ def spoiled_branches(call, met, by=ref):
             {"lengths": lengths})
 
 
-def refused_by_first(call, add, sets, by=ref):
-    """For each set of refusals a call that meets them; the first of the set is returned."""
+def refused_by_first(call, add, sets, by=ref, width_q=None):
+    """For each set of refusals a call that meets them; the first of the set is returned. `width_q` is the q of a width,
+    where 1 and 7 cannot be met."""
     for met in sets:
-        tests, arguments, lengths = spoiled_branches(call, met, by)
+        tests, (q, *arguments), lengths = spoiled_branches(call, met, by)
         applies = [number for number, test in tests if test()]
         assert set(met) <= set(applies) and applies[0] == met[0]
-        add(*arguments, **lengths, expect=met[0])
+        add(width_q or q, *arguments, **lengths, expect=met[0])
 
 
 def with_all_after(call):
@@ -955,6 +959,17 @@ def branches_margins(pages, random):
 
 # Schedules: which passes of the list are run (request N4)
 
+def different(random, q, count):
+    """So many different symbols other than 0."""
+    if q <= 256:
+        return random.some(range(1, q), count)
+    chosen = []
+    while len(chosen) < count:
+        value = 1 + random.below(q - 1)
+        chosen += [value] if value not in chosen else []
+    return chosen
+
+
 def with_leads(random, q, k, runs, leads):
     """A page on which, for each of the leads, 1 to J - 1, one data symbol leads by so many votes, and no other symbol is
     to be changed. Returns the data sent and the page.
@@ -972,7 +987,7 @@ def with_leads(random, q, k, runs, leads):
             symbol = n % b * k + random.below(k)
         checks = ref.checks_of(k, runs, symbol)
         used |= set(checks)
-        error, *others = random.some(range(1, q), j - lead) if q > 2 else [1] + [0] * ((j - 1 - lead) // 2)
+        error, *others = different(random, q, j - lead) if q > 2 else [1] + [0] * ((j - 1 - lead) // 2)
         page[symbol] = (page[symbol] + error) % q
         for check, other in zip(random.some(checks, len(others)), others):
             # S is to be `other` there.
@@ -2767,12 +2782,621 @@ def bits_c_only(pages, random):
         pages.bits.explain(*arguments, answer_len=23, expect=number)
 
 
+# Symbols of two bytes and of four (request N10)
+
+def wide_group(name, c_only=False, long=False):
+    """A group for each width. The function below it gets the calls of the width, its q, and random numbers."""
+    def add(function):
+        for w in wide.WIDTHS:
+            group(f"u{8 * w}, {name}", c_only, long)(
+                lambda pages, random, w=w: function(pages.wide[w], wide.q_of(w), random))
+        return function
+    return add
+
+
+def edges(q):
+    """Values about the ends of the width, of its lower half and of its bytes."""
+    return sorted({(value + more) % q for value in (0, 256, 65536, 2 ** 24, q // 2, q - 256) if value < q
+                   for more in (-1, 0, 1)})
+
+
+def alike(q):
+    """Values other than 0 that agree in their low byte, low two or low three, as far as the width goes, and those that
+    agree in all but the lowest; in ascending order."""
+    return sorted({0x5a, 0x5a + 256, 0x5a + 512, q // 2 + 0x5a, q - 256 + 0x5a, q - 256 + 0x5b, 256, 512, q // 2, q - 256} |
+                  {value for value in (0x5a + 65536, 0x5a + 2 ** 24, 65536, 2 ** 24, 2 ** 24 + 65536 + 256) if value < q})
+
+
+def wide_symbols(random, q, count):
+    """Half of them at the edges, half any."""
+    at = edges(q)
+    return [random.pick(at) if random.below(2) else random.below(q) for _ in range(count)]
+
+
+def wide_damaged(random, q, page, places):
+    """The page with the symbols at these places replaced: by one more or less, by one that differs in one byte, or any."""
+    page = list(page)
+    for at, place in enumerate(places):
+        more = (1, q - 1, 256, q // 2, q // 256, 1 + random.below(q - 1), 1 + random.below(q - 1))[at % 7]
+        page[place] = (page[place] + more) % q
+    return page
+
+
+def wide_decoded(calls, random, code, runs, thresholds, places):
+    """A page with the symbols at these places replaced. Inside the bound the data comes back. Returns what decode gave."""
+    q, k, b, _ = code
+    data = wide_symbols(random, q, b * k)
+    page = wide_damaged(random, q, ref.code_word(q, k, runs, data), places)
+    got = calls.decode(*code, page, thresholds, expect=0)
+    assert got.result == data or 2 * len(places) + min(thresholds) > len(runs[0])
+    return got
+
+
+# k, b and J of codes, up to eight branches.
+WIDE_CODES = ((3, 1, 2), (7, 1, 3), (13, 1, 4), (31, 1, 6), (57, 1, 8), (133, 1, 12), (13, 2, 3), (15, 2, 3), (40, 3, 4),
+              (27, 4, 3), (156, 5, 6), (13, 6, 2), (31, 7, 2), (17, 8, 2), (307, 1, 18), (993, 1, 32))
+
+
+@wide_group("pages worked by hand")
+def wide_by_hand(calls, q, random):
+    a = q, *wide.A
+    sent = ref.symbols(13, {0: 10, 12: q - 6})
+    calls.encode(*a, sent, expect=0)
+    calls.syndrome(*a, sent + [0] * 13, expect=0)
+    calls.encode(*a, [q - 1] * 13, expect=0)
+    calls.syndrome(*a, [0] * 13 + [1] * 13, expect=0)
+    for page, thresholds, *_, counts in wide.worked_pages(calls.w):
+        assert calls.decode(*a, page, thresholds, expect=0).counts == counts
+    for values, h0, m0, m1, set_bits in wide.worked_answers(calls.w):
+        buffers = with_estimates(random, a, [[0, 1, 4, 6]], 0, values)
+        for threshold in sorted({max(m0 - m1 - 1, 0), m0 - m1}):
+            got = calls.explain(*a, threshold, 0, *buffers, expect=0)
+            assert got[1:] == (h0, m0, m1, set_bits)
+    # k = 1: the page is the symbol twice.
+    for symbol in edges(q):
+        calls.encode(q, 1, 1, ref.table_of([0]), [symbol], expect=0)
+        got = calls.decode(q, 1, 1, ref.table_of([0]), [symbol, (symbol + 256) % q], [0], expect=0)
+        assert got.result == [symbol] and got.syndrome == [q - 256] and got.margins == [0]
+
+
+@wide_group("tables")
+def wide_tables(calls, q, random):
+    for k, b, j in ((1, 1, 1), (1, 8, 1), (7, 1, 3), (13, 2, 3), (17, 8, 2), (57, 1, 8), (307, 1, 17), (400, 7, 8),
+                    (512, 8, 7), (993, 1, 31), (993, 1, 32), (2048, 2, 20), (4096, 1, 32)):
+        code, _ = some_code(random, q, k, b, j)
+        calls.check_table(*code, expect=0)
+    for k, b, runs, number in ((0, 1, [[0]], 2), (4097, 1, [[0]], 2), (65549, 1, [[0, 1, 4, 6]], 2), (13, 0, [[0]], 10),
+                               (13, 9, [[0]] * 9, 10), (16, 2 ** 28 + 1, [[0]], 10), (2049, 2, [[0], [0]], 10),
+                               (513, 8, [[0]] * 8, 10), (13, 1, [], 3), (4096, 1, [range(33)], 3),
+                               (13, 2, [[0, 1, 4]], 3), (13, 1, [[0, 13]], 4), (13, 1, [[0, 4, 1]], 4),
+                               (13, 2, [[0, 1], [2, 2]], 4), (12, 1, [[0, 1, 4, 6]], 5), (4096, 1, [[0, 2048]], 5),
+                               (13, 2, [[0, 1], [0, 1]], 5), (13, 2, [[0, 1], [0, 12]], 5)):
+        calls.check_table(q, k, b, ref.table_of(*runs), expect=number)
+
+
+@wide_group("encode and syndrome")
+def wide_encode(calls, q, random):
+    for k, b, j in ((1, 1, 1), (1, 8, 1), (2, 1, 1), *WIDE_CODES, (400, 2, 8), (1021, 1, 12)):
+        code, runs = some_code(random, q, k, b, j)
+        data = wide_symbols(random, q, b * k)
+        calls.encode(*code, data, expect=0)
+        if b * k < 300:
+            word = ref.code_word(q, k, runs, data)
+            calls.syndrome(*code, word, expect=0)
+            calls.syndrome(*code, wide_damaged(random, q, word, [random.below(len(word))]), expect=0)
+        calls.syndrome(*code, wide_symbols(random, q, (b + 1) * k), expect=0)
+    # The largest sums, which wrap b times J - 1 times; the smallest and largest values of a sum less a check; carries
+    # from one byte into the next; sums that wrap to 0.
+    for k, b, j in ((57, 1, 8), (31, 7, 2), (27, 8, 1), (133, 1, 12)):
+        code, _ = some_code(random, q, k, b, j)
+        n = b * k
+        calls.encode(*code, [q - 1] * n, expect=0)
+        calls.syndrome(*code, [q - 1] * n + [0] * k, expect=0)
+        calls.syndrome(*code, [0] * n + [q - 1] * k, expect=0)
+        calls.syndrome(*code, [0] * n + [1] * k, expect=0)
+        for value in (255, 256, q // 2, q // 256, q // 2 - 1):
+            calls.encode(*code, [value] * n, expect=0)
+        calls.encode(*code, [(1, q - 1)[i % 2] for i in range(n)], expect=0)
+    # One branch not 0, each in turn: its place in the page and its run.
+    for r in range(5):
+        data = [0] * (5 * 31)
+        data[31 * r:31 * r + 31] = wide_symbols(random, q, 31)
+        calls.encode(q, 31, 5, ref.table_of(*[[r, 5 + 2 * r] for r in range(5)]), data, expect=0)
+
+
+@wide_group("decode, clean pages")
+def wide_clean(calls, q, random):
+    for at, (k, b, j) in enumerate(((1, 1, 1), (1, 8, 1), *WIDE_CODES[:-1])):
+        code, runs = some_code(random, q, k, b, j)
+        got = wide_decoded(calls, random, code, runs, LISTS[at], [])
+        assert got.places == ref.strict_minima(LISTS[at]) and got.counts[1:] == (0, 0, 0)
+
+
+@wide_group("decode, damage inside the bound")
+def wide_inside(calls, q, random):
+    """As many symbols replaced as the smallest threshold allows, anywhere, and on one data symbol and its checks."""
+    for at, (k, b, j) in enumerate(WIDE_CODES):
+        for least in sorted({0, 1, j // 2} - {j, j - 1})[:1 if k > 150 else 3]:
+            code, runs = some_code(random, q, k, b, j)
+            t = (j - least) // 2
+            lists = lists_inside(j, least)
+            wide_decoded(calls, random, code, runs, lists[(at + least) % len(lists)], branch_places(k, b, t, random))
+            if k > 150:
+                continue
+            symbol = random.below(b * k)
+            checks = [b * k + i for i in ref.checks_of(k, runs, symbol)]
+            for places in ([symbol] + checks[:t - 1], checks[-t:]):
+                got = wide_decoded(calls, random, code, runs, [least], places)
+                assert got.counts.changes == (symbol in places)
+
+
+@wide_group("decode, damage outside the bound")
+def wide_outside(calls, q, random):
+    """From one symbol more than the bound allows to a quarter of the page."""
+    changed = 0
+    for at, ((k, b, j), share) in enumerate(itertools.product(WIDE_CODES, (0, 16, 4))):
+        if k > 900 and share > 0:
+            continue
+        code, runs = some_code(random, q, k, b, j)
+        count = max((b + 1) * k // share if share else 0, j // 2 + 1)
+        thresholds = ([0] * 4, [2, 1, 0, 0, 0], [j // 2, 0, 0], [1] * 3, [0] * 12)[at % 5]
+        got = wide_decoded(calls, random, code, runs, thresholds, branch_places(k, b, count, random))
+        changed += got.counts.changes > 0
+    assert changed > 25
+    # The checks of one data symbol replaced by the same difference, so many that it is changed though it was right.
+    for (k, b, j), more in zip(((13, 1, 4), (57, 1, 7), (40, 3, 4), (133, 1, 12)), (1, 256, q // 2, q - 1)):
+        code, runs = some_code(random, q, k, b, j)
+        word = ref.code_word(q, k, runs, wide_symbols(random, q, b * k))
+        symbol = random.below(b * k)
+        for check in ref.checks_of(k, runs, symbol)[:(j + 1) // 2 + 1]:
+            word[b * k + check] = (word[b * k + check] + more) % q
+        got = calls.decode(*code, word, [0], expect=0)
+        assert got.result[symbol] == (word[symbol] + more) % q and got.counts.end < got.counts.start
+
+
+@wide_group("decode, few values that are alike")
+def wide_alike(calls, q, random):
+    """S of a few values that agree in some of their bytes and not in others, so that a vote by a part of each symbol has
+    another leader: every J up to 12 and some above, one branch and more."""
+    values = alike(q)
+    changed = 0
+    for j in (*range(1, 13), 16, 20, 32):
+        k = smallest_k(j)
+        code, runs = some_code(random, q, k, 1, j)
+        few = random.some(values, 2 + j % 3)
+        s = [random.pick(few) if random.below(4) else 0 for _ in range(k)]
+        thresholds = random.pick(([0] * 6, [j // 4, 1, 0, 0], [2, 1, 0]))
+        got = calls.decode(*code, with_syndrome(q, k, runs, wide_symbols(random, q, k), s), thresholds, expect=0)
+        changed += got.counts.changes > 0
+    assert changed > 8
+    for k, b, j, thresholds in ((1, 8, 1, [0]), (13, 2, 3, [0] * 8), (40, 3, 4, [1, 0, 0]), (17, 8, 2, [0] * 8)):
+        code, runs = some_code(random, q, k, b, j)
+        s = [random.pick(values[-3:] + [0]) for _ in range(k)]
+        calls.decode(*code, with_syndrome(q, k, runs, wide_symbols(random, q, b * k), s), thresholds, expect=0)
+    # Every symbol random.
+    for k, b, j in ((13, 1, 4), (57, 1, 8), (40, 3, 4), (17, 8, 2)):
+        code, _ = some_code(random, q, k, b, j)
+        calls.decode(*code, random.symbols(q, (b + 1) * k), [0] * 3, expect=0)
+
+
+@wide_group("decode, every threshold")
+def wide_thresholds(calls, q, random):
+    """One page with 9 estimates a symbol, decoded with each threshold alone, from 0 to 32. S is mostly one large value, so
+    that it leads by every number of votes that it can."""
+    code, runs = some_code(random, q, 57, 1, 8)
+    page = with_syndrome(q, 57, runs, wide_symbols(random, q, 57), mostly(random, q, 57, q - 256))
+    for threshold in range(33):
+        got = calls.decode(*code, page, [threshold], expect=0)
+        assert (got.counts.changes > 0) == (threshold < 7)
+
+
+@wide_group("schedules")
+def wide_schedules(calls, q, random):
+    """Symbols of known leads: what each pass has to change is known. J = 8; three branches."""
+    positions = greedy(256)[:8]
+    for thresholds, places, changes in PASSES_BY_LEADS[::2]:
+        scheduled(calls, random, q, 256, [positions], [7, 5, 3, 1], thresholds, places, changes)
+    falling = [7, 6, 5, 4, 3, 2, 1, 0]
+    for lead in range(1, 8):
+        scheduled(calls, random, q, 133, [positions_for(random, 133, 8)], [lead], falling, list(range(8)),
+                  [int(t == lead - 1) for t in falling])
+    runs = runs_for(random, 156, 3, 6)
+    for leads, (thresholds, places, changes) in zip(([5, 3, 1], [1, 5, 3], [3, 1, 5]), (
+            ([5, 4, 3, 2, 1, 0], [0, 1, 2, 3, 4, 5], [0, 1, 0, 1, 0, 1]), ([2, 6, 7, 2, 0], [0, 1, 3, 4], [2, 0, 0, 1]),
+            ([32] * 62 + [0, 0], [0, 62, 63], [0, 3, 0]))):
+        scheduled(calls, random, q, 156, runs, leads, thresholds, places, changes)
+    # Lists of every kind with damage outside the bound.
+    for at, thresholds in enumerate(LISTS):
+        k, b, j = ((57, 1, 8), (31, 1, 5), (40, 3, 4), (31, 1, 6))[at % 4]
+        code, runs = some_code(random, q, k, b, j)
+        wide_decoded(calls, random, code, runs, thresholds, branch_places(k, b, (b + 1) * k // 8, random))
+
+
+@wide_group("margins from -(J + 1) to J + 1")
+def wide_margins(calls, q, random):
+    """As the general group has them, with large values: all of them times the same odd number."""
+    factor = q - 257
+    for k, positions in ((512, [0, 1, 20, 60]), (1021, greedy(1021)[:12])):
+        table, j = ref.table_of(positions), len(positions)
+        back = [factor * symbol % q for symbol in turned_back(q, k, positions)]
+        all_but_one = list(back)
+        all_but_one[k + positions[-1]] = 256
+        seen = set()
+        for page, thresholds in (([factor * x % q for x in stepped(random, q, k)], [32]), (back, [0]), (all_but_one, [0])):
+            seen |= set(calls.decode(q, k, 1, table, page, thresholds, expect=0).margins)
+        assert seen == set(range(-j - 1, j + 2)) - {j}
+
+
+@wide_group("openings")
+def wide_openings(calls, q, random):
+    for k, b, j in ((1, 1, 1), (1, 8, 1), *WIDE_CODES[:-1]):
+        code, runs = some_code(random, q, k, b, j)
+        got = calls.open_page(*code, wide_symbols(random, q, (b + 1) * k), expect=0)
+        assert not any(got.difference)
+        if k < 60:
+            data = wide_symbols(random, q, b * k)
+            got = calls.open_page(*code, ref.code_word(q, k, runs, data), expect=0)
+            assert got == (data, [0] * k, [0] * (b * k))
+    for k, b, j in ((57, 1, 8), (31, 7, 2)):
+        code, _ = some_code(random, q, k, b, j)
+        calls.open_page(*code, [q - 1] * (b * k) + [0] * k, expect=0)
+        calls.open_page(*code, [0] * (b * k) + [q - 1] * k, expect=0)
+
+
+@wide_group("passes on opened pages")
+def wide_passes_opened(calls, q, random):
+    """Inside the bound and outside it, no pass skipped; refused ones between those that are made; the passes of a
+    decode."""
+    for k, b, j, replaced, thresholds in (
+            (13, 1, 4, 2, [0, 0]), (13, 1, 4, 1, [2]), (31, 1, 6, 3, [4, 1, 0]), (57, 1, 8, 2, [3, 4]),
+            (13, 2, 3, 1, [1, 0]), (31, 7, 2, 1, [1, 0]), (17, 8, 2, 1, [0]), (13, 1, 4, 6, [2, 0, 0]),
+            (31, 1, 6, 10, [1, 0, 0]), (57, 1, 8, 14, [2, 1, 0, 0]), (40, 3, 4, 20, [2, 1, 0, 0]), (17, 8, 2, 8, [1, 0])):
+        code, runs = some_code(random, q, k, b, j)
+        opened_passes(calls, random, code, runs, replaced, thresholds)
+    for k, b, j, replaced, refused in (
+            (13, 1, 4, 2, [4294967295, 33, 0]), (13, 1, 4, 1, [(0, RESULT, -1), 2, (0, RESULT, 1), 2]),
+            (31, 1, 6, 3, [2, (0, S, -1), (0, S, 1), 0]), (31, 1, 5, 2, [(0, D, -1), (1, D, 1), 1, 256]),
+            (13, 2, 3, 1, [33, (0, RESULT, -13), 1, (0, D, -13)]), (17, 8, 2, 1, [(0, RESULT, 17), 2147483648, 0])):
+        code, runs = some_code(random, q, k, b, j)
+        opened_passes(calls, random, code, runs, replaced, refused)
+    for k, b, j, replaced, thresholds in ((31, 1, 6, 9, [4, 4, 2, 0, 0]), (40, 3, 4, 12, [2, 1, 3, 0, 0])):
+        code, runs = some_code(random, q, k, b, j)
+        page = wide_damaged(random, q, ref.code_word(q, k, runs, wide_symbols(random, q, b * k)),
+                            branch_places(k, b, replaced, random))
+        decoded = calls.decode(*code, page, thresholds, expect=0)
+        buffers = calls.open_page(*code, page, expect=0)
+        after, made = passes_in_turn(calls, code, buffers, [thresholds[i] for i in decoded.places])
+        assert after == decoded[:3] and made == decoded.changes_of_pass and sum(made) > 0
+
+
+@wide_group("passes on buffers of any content")
+def wide_passes_any(calls, q, random):
+    """Every J up to 12 and some above: mostly one value, at the edges of the width. Then passes in turn, S and D all 0,
+    and a change of every symbol."""
+    at = edges(q)[1:]
+    for j in (*range(1, 13), 16, 17, 32):
+        k = smallest_k(j)
+        code, _ = some_code(random, q, k, 1, j)
+        value = at[j % len(at)]
+        got = calls.pass_once(*code, (0, 1, 0, j // 4)[j % 4], wide_symbols(random, q, k), mostly(random, q, k, value),
+                              mostly(random, q, k, value), expect=0)
+        assert got.changes > 0
+    for k, b, j in ((57, 1, 8), (17, 8, 2), (27, 4, 3)):
+        code, _ = some_code(random, q, k, b, j)
+        _, made = passes_in_turn(calls, code, any_buffers(random, q, k, b), [j, j // 2, 0, 0])
+        assert sum(changes > 0 for changes in made) > 1
+    for k, b, j, threshold in ((1, 1, 1, 0), (1, 8, 1, 32), (13, 1, 4, 4), (17, 8, 2, 0)):
+        code, _ = some_code(random, q, k, b, j)
+        got = calls.pass_once(*code, threshold, wide_symbols(random, q, b * k), [0] * k, [0] * (b * k), expect=0)
+        assert got.changes == 0
+    # J = 1 and D = S: every symbol is changed, and the number of changes takes two bytes.
+    for k in (255, 256, 300):
+        s = [random.pick(at) for _ in range(k)]
+        got = calls.pass_once(q, k, 1, ref.table_of([0]), 1, wide_symbols(random, q, k), s, s, expect=0)
+        assert got.changes == k and not any(got.syndrome + got.difference)
+
+
+@wide_group("passes, votes")
+def wide_passes_votes(calls, q, random):
+    """The estimates of symbol 0 of code A; each other symbol has one of its checks at most and is left. Result, D and S
+    wrap where the leader is subtracted from less."""
+    def vote(estimates, threshold, h0):
+        """Symbol 0 is changed by h0, or left where that is 0."""
+        s = ref.symbols(13, dict(zip((0, 1, 4, 6), estimates[1:])))
+        got = calls.pass_once(q, 13, 1, ref.CODE_A, threshold, [h0 // 2] + wide_symbols(random, q, 12), s,
+                              ref.symbols(13, {0: estimates[0]}), expect=0)
+        assert got.changes == (h0 != 0) and got.difference[0] == (estimates[0] - h0) % q
+        assert got.result[0] == (h0 // 2 - h0) % q
+
+    top = q // 256
+    for estimates, h0, ahead in (
+            ((0, q - 1, q - 1, q - 1, q - 1), q - 1, 3), ((q - 1, q - 1, q - 1, q - 1, 0), q - 1, 3),
+            ((1, 256, 256, 256, 256), 256, 3), ((q // 2,) * 5, q // 2, 5), ((0, q - 1, 1, q - 1, 2), q - 1, 1),
+            # Alike in the low byte, the low bytes or all but the lowest: each value is one by itself.
+            ((7, 7, 7 + 256, 7 + 512, 7 + 768), 7, 1), ((7 + 256, 7 + 256, 7, 7 + 512, 7 + 768), 7 + 256, 1),
+            ((7 + q // 2, 7 + q // 2, 7, 7, 1), 0, 0), ((7 + q // 2, 7, 7 + q // 2, 7, 7 + q // 2), 7 + q // 2, 1),
+            ((256, 512, 768, 256, 1024), 256, 1), ((256, 512, 768, 1024, 1280), 0, 0), ((0, 256, 512, 768, 0), 0, 1),
+            ((top, top, 2 * top, 3 * top, 4 * top), top, 1), ((0, top, 2 * top, 0, 3 * top), 0, 1),
+            ((q - 256, q - 255, q - 256, q - 255, q - 256), q - 256, 1), ((q - 1, q - 2, q - 3, q - 4, q - 4), q - 4, 1)):
+        if ahead:
+            vote(estimates, ahead - 1, h0)
+        vote(estimates, ahead, 0)
+    # All J + 1 estimates of symbol 0, and of no other, agree: a change with a threshold of J, none with J + 1.
+    for k, j, h in ((1, 1, q - 1), (7, 3, 256), (57, 8, q // 2), (993, 32, q - 256)):
+        positions = positions_for(random, k, j)
+        s = ref.symbols(k, {p: h for p in positions})
+        for threshold in (j, j + 1)[:1 if j == 32 else 2]:
+            got = calls.pass_once(q, k, 1, ref.table_of(positions), threshold, random.symbols(q, k), s,
+                                  ref.symbols(k, {0: h}), expect=0)
+            assert got.changes == (threshold == j)
+
+
+@wide_group("explanations")
+def wide_explain(calls, q, random):
+    """Each ground for every J with a leader at the edges, one more vote than the threshold lets through and one less; then
+    leaders among values that are alike."""
+    at, values = edges(q)[1:], alike(q)
+    for j in (*range(1, 13), 17, 24, 31):
+        code, runs = some_code(random, q, smallest_k(j), 1, j)
+        for ground in (1, 2, 3) if j < 9 else (1 + j % 3,):
+            h0 = 0 if ground == 2 else at[(5 * j + ground) % len(at)]
+            ahead = random.pick([lead for lead in leads_of(j) if lead > 0])
+            m1, left = divmod(j + 1 - ahead, 2)
+            others = [value for value in different(random, q, 3) if value != h0]
+            votes = {h0: m1 + ahead, **{value: count for value, count in zip(others, (m1, left)) if count}}
+            threshold = ahead if ground == 1 else ahead - 1
+            explained(calls, random, code, runs, random.below(code[1]), min(threshold, 32), votes, ground, h0)
+    for j in (4, 6, 8, 12):
+        code, runs = some_code(random, q, smallest_k(j), 1, j)
+        for h0 in random.some(values, 3):
+            others = random.some([value for value in values if value != h0], (j + 1) // 2)
+            votes = {h0: j + 1 - len(others), **dict.fromkeys(others, 1)}
+            explained(calls, random, code, runs, random.below(code[1]), j - len(others) - 1, votes, 3, h0)
+
+
+@wide_group("explanations, ties between large values")
+def wide_explain_ties(calls, q, random):
+    """Of the tied values h0 is the smallest, wherever it stands: not by low bytes, and not as signed numbers."""
+    a, values = (q, *wide.A), alike(q)
+    for small, large in itertools.combinations(random.some(values, 6) + [q - 1], 2):
+        if small > large:
+            small, large = large, small
+        third = random.pick([value for value in values if value not in (small, large)])
+        order = in_any_order(random, {small: 2, large: 2, third: 1})
+        buffers = with_estimates(random, a, [[0, 1, 4, 6]], 0, order)
+        got = calls.explain(*a, random.below(3), 0, *buffers, expect=0)
+        assert got == (1, small, 2, 2, sum(1 << i for i, value in enumerate(order) if value == small))
+    for small, large in ((q // 2 - 1, q // 2), (255, 256), (1, q - 1), (0, q - 1), (q - 2, q - 1), (q // 256, q // 2)):
+        for order in ((small, large, small, large), (large, small, large, small), (large, large, small, small)):
+            buffers = with_estimates(random, (q, 7, 1, ref.table_of([0, 1, 3])), [[0, 1, 3]], 5, order)
+            got = calls.explain(q, 7, 1, ref.table_of([0, 1, 3]), 0, 5, *buffers, expect=0)
+            assert got == (1, small, 2, 2, sum(1 << i for i, value in enumerate(order) if value == small))
+    # All different: each is tied, and the smallest of all is h0.
+    for j in (4, 8, 12):
+        code, runs = some_code(random, q, smallest_k(j), 1, j)
+        votes = dict.fromkeys(different(random, q, j + 1), 1)
+        explained(calls, random, code, runs, random.below(code[1]), 0, votes, 1, min(votes))
+    code, runs = some_code(random, q, 133, 1, 11)
+    votes = {q - 1: 4, q - 256: 4, q // 2: 4}
+    for threshold in (0, 32):
+        explained(calls, random, code, runs, random.below(133), threshold, votes, 1, q // 2)
+
+
+@wide_group("explanations, J = 32")
+def wide_explain_widest(calls, q, random):
+    """33 estimates: the last has the bit that 32 bits have no place for."""
+    for threshold, value, others, ground, set_bits in (
+            (32, q - 1, {}, 3, 2 ** 33 - 1), (32, 0, {}, 2, 2 ** 33 - 1),
+            (31, q - 256, {32: 0}, 1, 2 ** 32 - 1), (30, q // 2, {0: q // 2 - 1}, 3, 2 ** 33 - 2),
+            (1, 256, {i: q - 256 - i for i in range(31)}, 1, 2 ** 32 + 2 ** 31),
+            (0, 256, {i: 512 + 256 * i for i in range(31)}, 3, 2 ** 32 + 2 ** 31)):
+        code, runs = some_code(random, q, 993, 1, 32)
+        symbol = random.pick((0, random.below(993), 992))
+        buffers = with_estimates(random, code, runs, symbol, [others.get(i, value) for i in range(33)])
+        got = calls.explain(*code, threshold, symbol, *buffers, expect=0)
+        assert (got.ground, got.h0, got.bits) == (ground, value, set_bits)
+
+
+@wide_group("explanations in every branch")
+def wide_explain_branches(calls, q, random):
+    """The first and the last symbol of each, then symbol numbers beyond them; then symbols of opened pages, between
+    passes."""
+    for k, b, j in ((13, 1, 4), (13, 2, 3), (31, 4, 3), (17, 8, 2)):
+        code, runs = some_code(random, q, k, b, j)
+        for at, (r, i) in enumerate(itertools.product(range(b), (0, k - 1))):
+            ground, h0, other, threshold = ((1, 256, 512, j - 1), (3, q - 1, 1, j - 2), (2, 0, 256, j - 2))[at % 3]
+            explained(calls, random, code, runs, r * k + i, threshold, {h0: j, other: 1}, ground, h0)
+        buffers = any_buffers(random, q, k, b)
+        for symbol in (b * k, (b + 1) * k, 256, 65536, 2 ** 31, 2 ** 32 - 1):
+            calls.explain(*code, 1, symbol, *buffers, expect=11)
+    # k = 1: each branch has one symbol, and all have the one check, at which S is 256.
+    d = [256, 257, 256, 255, 0, 512, q - 1, 256]
+    for symbol in range(8):
+        got = calls.explain(q, 1, 8, ref.table_of(*[[0]] * 8), 1, symbol, wide_symbols(random, q, 8), [256], d, expect=0)
+        assert got == ((3, 256, 2, 0, 3) if d[symbol] == 256 else (1, 256, 1, 1, 2) if d[symbol] > 256 else
+                       (1, d[symbol], 1, 1, 1))
+    grounds = []
+    for k, b, j, replaced, thresholds in ((31, 1, 6, 3, [2, 0]), (31, 1, 6, 9, [1]), (57, 1, 8, 4, [3]),
+                                          (13, 2, 3, 1, [1, 0]), (40, 3, 4, 6, [0]), (17, 8, 2, 8, [0])):
+        code, runs = some_code(random, q, k, b, j)
+        places = branch_places(k, b, replaced, random)
+        page = wide_damaged(random, q, ref.code_word(q, k, runs, wide_symbols(random, q, b * k)), places)
+        buffers = calls.open_page(*code, page, expect=0)
+        asked = [place for place in places[:2] if place < b * k] + [random.below(b * k)]
+        for threshold in thresholds:
+            grounds += [calls.explain(*code, threshold, symbol, *buffers, expect=0).ground for symbol in asked]
+            buffers = calls.pass_once(*code, threshold, *buffers, expect=0)[:3]
+        grounds += [calls.explain(*code, thresholds[-1], symbol, *buffers, expect=0).ground for symbol in asked]
+    assert min(grounds.count(ground) for ground in (1, 2, 3)) >= 4
+
+
+@wide_group("about 128 and 1,024 data symbols")
+def wide_tiers(calls, q, random):
+    """Where the C calls go over to a larger array: every call below, at and above both numbers, in one branch and in
+    more, with the last data symbol and the last check replaced."""
+    for k, b, j in ((127, 1, 9), (128, 1, 9), (129, 1, 9), (64, 2, 4), (65, 2, 4), (16, 8, 1), (17, 8, 2), (1023, 1, 6),
+                    (1024, 1, 6), (1025, 1, 6), (128, 8, 2)):
+        code, runs = some_code(random, q, k, b, j)
+        data = wide_symbols(random, q, b * k)
+        page = wide_damaged(random, q, ref.code_word(q, k, runs, data), [b * k - 1, (b + 1) * k - 1])
+        calls.encode(*code, data, expect=0)
+        calls.syndrome(*code, page, expect=0)
+        decoded = calls.decode(*code, page, [0], expect=0)
+        assert decoded.counts.changes == 1 or j < 4
+        buffers = calls.open_page(*code, page, expect=0)
+        calls.explain(*code, 0, b * k - 1, *buffers, expect=0)
+        assert calls.pass_once(*code, 0, *buffers, expect=0)[:3] == decoded[:3]
+
+
+@wide_group("refusals one by one")
+def wide_one_by_one(calls, q, random):
+    """Each refusal of each call, at the edges of what it tests, by lengths of whole symbols; 11 stands with the
+    branches."""
+    a, two, lent_for = ref.CODE_A, ref.table_of([0, 1, 4], [0, 2, 7]), (13, 1)
+    seven_calls(calls, q, 13, 1, a, expect=0)
+    seven_calls(calls, q, 13, 2, two, expect=0)
+    for k, b, table, number in ((0, 1, a, 2), (4097, 1, a, 2), (65549, 1, a, 2), (13, 0, a, 10), (13, 9, a, 10),
+                                (16, 2 ** 28 + 1, a, 10), (2049, 2, a, 10), (13, 1, b"", 3),
+                                (13, 1, ref.table_of(range(33)), 3), (13, 3, a, 3),
+                                (13, 1, ref.table_of([0, 1, 4, 13]), 4), (12, 1, a, 5)):
+        seven_calls(calls, q, k, b, table, lent_for, expect=number)
+
+    # 6: each buffer one symbol off, one branch, half as long and twice.
+    page, right = [0] * 39, ref.decode_lengths(13, 2)
+    for more in (-1, 1, -13, 13):
+        calls.encode(q, 13, 2, two, [0] * (26 + more), page_len=39, expect=6)
+        calls.encode(q, 13, 2, two, [0] * 26, page_len=39 + more, expect=6)
+        calls.syndrome(q, 13, 2, two, [0] * (39 + more), expect=6)
+        calls.syndrome(q, 13, 2, two, page, syndrome_len=13 + more, expect=6)
+        calls.decode(q, 13, 2, two, [0] * (39 + more), [0], expect=6)
+        calls.open_page(q, 13, 2, two, [0] * (39 + more), expect=6)
+        for at, length in enumerate(right):
+            lengths = right[:at] + (length + (4 * more if at == 3 else more),) + right[at + 1:]
+            calls.decode(q, 13, 2, two, page, [0], lengths=lengths, expect=6)
+            if at < 3:
+                calls.open_page(q, 13, 2, two, page, lengths[:3], expect=6)
+                buffers = resized([[0] * n for n in right[:3]], at, more)
+                calls.pass_once(q, 13, 2, two, 0, *buffers, expect=6)
+                calls.explain(q, 13, 2, two, 0, 0, *buffers, expect=6)
+    for n in (13, 52):
+        calls.encode(q, 13, 2, two, [0] * n, page_len=39, expect=6)
+        calls.decode(q, 13, 2, two, page, [0], lengths=(n, 13, 26, 104), expect=6)
+        calls.decode(q, 13, 2, two, page, [0], lengths=(26, 13, n, 104), expect=6)
+
+    # Every symbol is in range: the largest at both ends of every input, of S and D too.
+    for place in (0, 25):
+        calls.encode(q, 13, 2, two, ref.symbols(26, {place: q - 1}), expect=0)
+    for place in (0, 25, 26, 38):
+        received = ref.symbols(39, {place: q - 1})
+        calls.syndrome(q, 13, 2, two, received, expect=0)
+        calls.decode(q, 13, 2, two, received, [0], expect=0)
+        calls.open_page(q, 13, 2, two, received, expect=0)
+    for buffer, place in itertools.product((RESULT, S, D), (0, -1)):
+        buffers = [[0] * n for n in right[:3]]
+        buffers[buffer][place] = q - 1
+        calls.pass_once(q, 13, 2, two, 32, *buffers, expect=0)
+        calls.explain(q, 13, 2, two, 32, 15, *buffers, expect=0)
+
+    # 8 and 9.
+    for thresholds, number in (([], 8), ([0] * 65, 8), ([33] * 65, 8), ([33], 9), ([255], 9), ([0, 33], 9),
+                               ([0] * 63 + [33], 9), ([32] * 64, 0)):
+        calls.decode(q, 13, 2, two, page, thresholds, expect=number)
+    clean = [[0] * n for n in right[:3]]
+    for threshold in (32, 33, 255, 256, 288, 65536, 2 ** 31, 2 ** 32 - 1):
+        number = 0 if threshold == 32 else 9
+        calls.pass_once(q, 13, 2, two, threshold, *clean, expect=number)
+        calls.explain(q, 13, 2, two, threshold, 25, *clean, expect=number)
+
+
+@wide_group("refusals with others")
+def wide_refused(calls, q, random):
+    """Every pair of refusals, and each with all that come after it, in the order 2, 10, 3, 4, 5, 6, 8, 9, 11."""
+    for call, add in ((CHECK_TABLE, calls.check_table), (ENCODE, calls.encode), (SYNDROME, calls.syndrome),
+                      (DECODE, calls.decode), (OPEN, calls.open_page), (PASS, calls.pass_once),
+                      (EXPLAIN, calls.explain)):
+        numbers = tuple(number for number in REFUSALS[call] if number not in (1, 7))
+        sets = [numbers[a:] for a in range(len(numbers) - 2)]
+        refused_by_first(call, add, list(itertools.combinations(numbers, 2)) + sets, width_q=q)
+
+
+@wide_group("in C alone", c_only=True)
+def wide_c_only(calls, q, random):
+    """Tables of an odd length, every length off by each number of bytes that is less than a symbol, as many bytes as there
+    are symbols, margins of no whole number, other lengths of the changes than 4 and of the answer than 24."""
+    w, odd, two = calls.w, ref.CODE_A + b"\0", ref.table_of([0, 1, 4], [0, 2, 7])
+    for length in (1, 7, 9):
+        seven_calls(calls, q, 13, 1, odd[:length], expect=3)
+    seven_calls(calls, q, 13, 9, odd, (13, 1), expect=10)
+
+    data, page, right = bytes(26 * w), bytes(39 * w), wide.decode_lengths(w, 13, 2)
+    buffers = [bytes(length) for length in right[:3]]
+    for more in [*range(1 - w, 0), *range(1, w)]:
+        longer = bytes(39 * w + more)
+        calls.encode_bytes(13, 2, two, longer[:26 * w + more], 39 * w, expect=6)
+        calls.encode_bytes(13, 2, two, data, 39 * w + more, expect=6)
+        calls.syndrome_bytes(13, 2, two, longer, 13 * w, expect=6)
+        calls.syndrome_bytes(13, 2, two, page, 13 * w + more, expect=6)
+        calls.decode_bytes(13, 2, two, longer, [0], right, expect=6)
+        calls.open_bytes(13, 2, two, longer, right[:3], expect=6)
+        for at, length in enumerate(right):
+            lengths = right[:at] + (length + more,) + right[at + 1:]
+            calls.decode_bytes(13, 2, two, page, [0], lengths, expect=6)
+            if at < 3:
+                calls.open_bytes(13, 2, two, page, lengths[:3], expect=6)
+                lent = [bytes(length) for length in lengths[:3]]
+                calls.pass_bytes(13, 2, two, 0, *lent, expect=6)
+                calls.explain_bytes(13, 2, two, 0, 0, *lent, expect=6)
+        # All a few bytes off; and before 8, 9 and 11, after 5.
+        lengths = tuple(length + more for length in right)
+        lent = [bytes(length) for length in lengths[:3]]
+        calls.encode_bytes(13, 2, two, longer[:26 * w + more], 39 * w + more, expect=6)
+        calls.decode_bytes(13, 2, two, longer, [33] * 65, lengths, expect=6)
+        calls.pass_bytes(13, 2, two, 33, *lent, expect=6)
+        calls.explain_bytes(13, 2, two, 33, 26, *lent, expect=6)
+        calls.decode_bytes(13, 2, ref.table_of([0, 1], [0, 1]), longer, [33], lengths, expect=5)
+    # As many bytes as symbols are due, and those of the other width.
+    for width in {1, 2, 4, 8} - {w}:
+        lengths = wide.decode_lengths(width, 13, 2)
+        lent = [bytes(length) for length in lengths[:3]]
+        calls.encode_bytes(13, 2, two, bytes(26 * width), 39 * width, expect=6)
+        calls.syndrome_bytes(13, 2, two, bytes(39 * width), 13 * width, expect=6)
+        calls.decode_bytes(13, 2, two, bytes(39 * width), [0], lengths, expect=6)
+        calls.open_bytes(13, 2, two, bytes(39 * width), lengths[:3], expect=6)
+        calls.pass_bytes(13, 2, two, 0, *lent, expect=6)
+        calls.explain_bytes(13, 2, two, 0, 0, *lent, expect=6)
+    for length in (0, 1, 101, 103, 105, 107, 26 * w):
+        calls.decode_bytes(13, 2, two, page, [0], (*right[:3], length), expect=0 if length == 104 else 6)
+    for length in (0, 1, 2, 3, 5, 8, 16):
+        calls.pass_bytes(13, 2, two, 0, *buffers, changes_len=length, expect=6)
+    for length in (0, 4, 16, 20, 23, 25, 32):
+        calls.explain_bytes(13, 2, two, 0, 0, *buffers, answer_len=length, expect=6)
+
+
+@wide_group("4,096 data symbols", c_only=True, long=True)
+def wide_whole(calls, q, random):
+    """Whole pages: one branch with every call, eight with decode and pass."""
+    code, runs = some_code(random, q, 4096, 1, 10)
+    data = wide_symbols(random, q, 4096)
+    page = wide_damaged(random, q, ref.code_word(q, 4096, runs, data), branch_places(4096, 1, 250, random))
+    calls.encode(*code, data, expect=0)
+    calls.syndrome(*code, page, expect=0)
+    got = calls.decode(*code, page, [2, 1, 0], expect=0)
+    assert got.counts.changes > 100
+    buffers = calls.open_page(*code, page, expect=0)
+    calls.explain(*code, 0, 4095, *buffers, expect=0)
+    assert calls.pass_once(*code, 2, *buffers, expect=0).changes > 50
+    code, runs = some_code(random, q, 512, 8, 7)
+    wide_decoded(calls, random, code, runs, [1, 0], branch_places(512, 8, 100, random))
+    calls.pass_once(*code, 1, *any_buffers(random, q, 512, 8), expect=0)
+
+
 def make():
     ref.self_check()
     bits.self_check()
+    wide.self_check()
     pages = Pages()
-    for place, (name, c_only, add_pages) in enumerate(GROUPS, start=1):
-        pages.open_group(name, c_only)
+    for place, (name, c_only, long, add_pages) in enumerate(GROUPS, start=1):
+        pages.open_group(name, c_only, long)
         add_pages(pages, Random(place))
     return pages
 
@@ -2782,12 +3406,14 @@ def main(arguments):
     files = {ROOT / "examples" / "charger.expected": examples.charger(),
              ROOT / "examples" / "branches.expected": examples.branches(),
              ROOT / "examples" / "outer.expected": examples.outer(),
+             ROOT / "examples" / "cells.expected": examples.cells(),
              ROOT / "examples" / "screen.expected": screen.content()}
     for program, file in pages.files.items():
         crate = ROOT / "crates" / program
         files[crate / "data" / "pages.bin"] = file.content()
         files[crate / "stdout"] = file.report()
-    total = f"{pages.count()} reference pages in {len(pages.files)} files"
+    files[ROOT / "tests" / "reference" / "long_pages.bin"] = pages.long_file.content()
+    total = f"{pages.count()} reference pages in {len(pages.files) + 1} files"
     if arguments == ["--check"]:
         for path, made in files.items():
             if not path.exists() or path.read_bytes() != made:

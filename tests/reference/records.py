@@ -5,13 +5,16 @@ import struct
 
 import bits
 import reference as ref
+import wide
 
 # The number of a call in the file; 0 opens a group.
 (OPEN_GROUP, CHECK_TABLE, ENCODE, SYNDROME, DECODE, OPEN, PASS, EXPLAIN, DECODE_COUNTERS, ENCODE_OUTER,
  DECODE_OUTER) = range(11)
 
-# The first seven on bit pages, in the same order, have the numbers after these.
+# The first seven on bit pages, in the same order, have the numbers after these; then come those on symbols of two bytes
+# and of four.
 ON_BITS = DECODE_OUTER
+ON_WIDE = {2: ON_BITS + EXPLAIN, 4: ON_BITS + 2 * EXPLAIN}
 
 # The programs that run the pages, each with a file of its own, and the calls of each.
 PROGRAMS = {
@@ -19,13 +22,19 @@ PROGRAMS = {
     "reference_counters": (DECODE_COUNTERS,),
     "reference_outer": (ENCODE_OUTER, DECODE_OUTER),
     "reference_bits": range(ON_BITS + CHECK_TABLE, ON_BITS + EXPLAIN + 1),
+    "reference_u16": range(ON_WIDE[2] + CHECK_TABLE, ON_WIDE[2] + EXPLAIN + 1),
+    "reference_u32": range(ON_WIDE[4] + CHECK_TABLE, ON_WIDE[4] + EXPLAIN + 1),
 }
 
 # What a record gives of a string's content.
 BEFORE, AFTER = 1, 2
 
-# What readers may rely on for the size of their buffers.
-MOST_TABLE, MOST_STRING, MOST_RECORD = 600, 16400, 40960
+# What readers may rely on for the size of their buffers: a table, then a string and a record of the programs' files, a
+# string of 2,100 symbols in those on wide symbols, and a string and a record of the file of long pages.
+MOST_TABLE = 600
+MOST_STRING, MOST_RECORD = 16400, 40960
+MOST_WIDE_STRING = {"reference_u16": 2 * 2100, "reference_u32": 4 * 2100}
+MOST_LONG_STRING, MOST_LONG_RECORD = 32768, 102400
 
 
 def read(content):
@@ -60,27 +69,28 @@ def decode_answers(lengths, number, got):
     return [lent(length, number, content) for length, content in zip((*lengths, 16), written)]
 
 
-def record(call, number, numbers, strings):
-    """A record, with its length before it."""
-    made = struct.pack(f"<{4 + len(numbers)}I", call, number, len(numbers), len(strings), *numbers) + b"".join(strings)
-    assert len(made) <= MOST_RECORD
-    assert all(struct.unpack_from("<I", string)[0] <= MOST_STRING for string in strings)
-    return struct.pack("<I", len(made)) + made
-
-
 class File:
-    """The records of one program, and of each group with pages for it the name, `c_only` and how many there are."""
+    """Records, and of each group with pages among them the name, `c_only` and how many there are. No string and no record
+    is longer than these."""
 
-    def __init__(self):
+    def __init__(self, most_string=MOST_STRING, most_record=MOST_RECORD):
+        self.most_string, self.most_record = most_string, most_record
         self.records = []
         self.groups = []
 
-    def add(self, name, c_only, page):
+    def _record(self, call, number, numbers, strings):
+        """A record, with its length before it."""
+        made = struct.pack(f"<{4 + len(numbers)}I", call, number, len(numbers), len(strings), *numbers) + b"".join(strings)
+        assert len(made) <= self.most_record
+        assert all(struct.unpack_from("<I", string)[0] <= self.most_string for string in strings)
+        self.records.append(struct.pack("<I", len(made)) + made)
+
+    def add(self, name, c_only, *page):
         """A page of this group, which its first page opens."""
         if not self.groups or self.groups[-1][0] != name:
             self.groups.append([name, c_only, 0])
-            self.records.append(record(OPEN_GROUP, 0, [int(c_only)], [read(name.encode())]))
-        self.records.append(page)
+            self._record(OPEN_GROUP, 0, [int(c_only)], [read(name.encode())])
+        self._record(*page)
         self.groups[-1][2] += 1
 
     def count(self):
@@ -105,8 +115,7 @@ class Calls:
     def _call(self, call, number, expect, numbers, table, strings):
         assert expect in (None, number)
         assert len(table) <= MOST_TABLE
-        call += self.after
-        self.add(call, record(call, number, numbers, [read(table), *strings]))
+        self.add(call + self.after, number, numbers, [read(table), *strings])
 
     # A function for each call. `expect` is the number that it is known to return.
 
@@ -174,25 +183,111 @@ class Calls:
         self.pass_once(q, k, b, table, 0, *([0] * length for length in lengths), expect=expect)
 
 
+class WideCalls(Calls):
+    """The seven calls on symbols of w bytes. Each takes what the call of its name takes, the one q of the width too:
+    symbols, and lengths in symbols, but for the margins. Those whose names end in `_bytes` take k and b alone, byte
+    strings, and all lengths in bytes. The record has k and b, and bytes."""
+
+    def __init__(self, w, add):
+        super().__init__(wide, ON_WIDE[w], add)
+        self.w, self.q = w, wide.q_of(w)
+
+    def _packed(self, *strings):
+        return [wide.packed(self.w, symbols) for symbols in strings]
+
+    def _lengths(self, q, lengths):
+        """The lengths of result, syndrome and difference in bytes, and that of the margins, if any, as it is."""
+        assert q == self.q
+        return *(self.w * length for length in lengths[:3]), *lengths[3:]
+
+    def check_table(self, q, k, b, table, expect=None):
+        assert q == self.q
+        self._call(CHECK_TABLE, wide.check_table(self.w, k, b, table), expect, [k, b], table, [])
+
+    def encode_bytes(self, k, b, table, data, page_len, expect=None):
+        number, page = wide.encode(self.w, k, b, table, data, page_len)
+        self._call(ENCODE, number, expect, [k, b], table,
+                   [read(data), lent(page_len, number, page and self._packed(page)[0])])
+
+    def syndrome_bytes(self, k, b, table, page, syndrome_len, expect=None):
+        number, s = wide.syndrome(self.w, k, b, table, page, syndrome_len)
+        self._call(SYNDROME, number, expect, [k, b], table,
+                   [read(page), lent(syndrome_len, number, s and self._packed(s)[0])])
+
+    def decode_bytes(self, k, b, table, page, thresholds, lengths, expect=None):
+        number, got = wide.decode(self.w, k, b, table, page, thresholds, *lengths)
+        written = got and got._replace(**dict(zip(("result", "syndrome", "difference"), self._packed(*got[:3]))))
+        self._call(DECODE, number, expect, [k, b], table,
+                   [read(page), read(thresholds), *decode_answers(lengths, number, written)])
+        return got
+
+    def open_bytes(self, k, b, table, page, lengths, expect=None):
+        number, got = wide.open_page(self.w, k, b, table, page, *lengths)
+        written = self._packed(*got) if got else [None] * 3
+        answers = [lent(length, number, content) for length, content in zip(lengths, written)]
+        self._call(OPEN, number, expect, [k, b], table, [read(page), *answers])
+        return got
+
+    def pass_bytes(self, k, b, table, threshold, result, s, d, changes_len=4, expect=None):
+        number, got = wide.pass_once(self.w, k, b, table, threshold, result, s, d, changes_len)
+        after = self._packed(*got[:3]) if got else (result, s, d)
+        buffers = [held(*contents) for contents in zip((result, s, d), after)]
+        changes = lent(changes_len, number, struct.pack("<I", got.changes) if got else None)
+        self._call(PASS, number, expect, [k, b, threshold], table, [*buffers, changes])
+        return got
+
+    def explain_bytes(self, k, b, table, threshold, symbol, result, s, d, answer_len=24, expect=None):
+        number, got = wide.explain(self.w, k, b, table, threshold, symbol, result, s, d, answer_len)
+        answer = lent(answer_len, number, struct.pack("<4IQ", *got) if got else None)
+        self._call(EXPLAIN, number, expect, [k, b, threshold, symbol], table, [*map(read, (result, s, d)), answer])
+        return got
+
+    def encode(self, q, k, b, table, data, page_len=None, expect=None):
+        length, = self._lengths(q, [(b + 1) * k if page_len is None else page_len])
+        self.encode_bytes(k, b, table, *self._packed(data), length, expect)
+
+    def syndrome(self, q, k, b, table, page, syndrome_len=None, expect=None):
+        length, = self._lengths(q, [k if syndrome_len is None else syndrome_len])
+        self.syndrome_bytes(k, b, table, *self._packed(page), length, expect)
+
+    def decode(self, q, k, b, table, page, thresholds, lengths=None, expect=None):
+        lengths = self._lengths(q, ref.decode_lengths(k, b) if lengths is None else lengths)
+        return self.decode_bytes(k, b, table, *self._packed(page), thresholds, lengths, expect)
+
+    def open_page(self, q, k, b, table, page, lengths=None, expect=None):
+        lengths = self._lengths(q, ref.buffer_lengths(k, b) if lengths is None else lengths)
+        return self.open_bytes(k, b, table, *self._packed(page), lengths, expect)
+
+    def pass_once(self, q, k, b, table, threshold, result, s, d, changes_len=4, expect=None):
+        assert q == self.q
+        return self.pass_bytes(k, b, table, threshold, *self._packed(result, s, d), changes_len, expect)
+
+    def explain(self, q, k, b, table, threshold, symbol, result, s, d, answer_len=24, expect=None):
+        assert q == self.q
+        return self.explain_bytes(k, b, table, threshold, symbol, *self._packed(result, s, d), answer_len, expect)
+
+
 class Pages(Calls):
-    """Calls, each with its expected outcome, as a record in the file of the call's program; `bits` has those on bit
-    pages."""
+    """Calls, each with its expected outcome, as a record in the file of the call's program, or in that of long pages;
+    `bits` has those on bit pages, `wide` those on symbols of each width."""
 
     def __init__(self):
         super().__init__(ref, OPEN_GROUP, self._add)
         self.bits = Calls(bits, ON_BITS, self._add)
-        self.files = {program: File() for program in PROGRAMS}
+        self.wide = {w: WideCalls(w, self._add) for w in wide.WIDTHS}
+        self.files = {program: File(MOST_WIDE_STRING.get(program, MOST_STRING)) for program in PROGRAMS}
         self.file_of = {call: self.files[program] for program, calls in PROGRAMS.items() for call in calls}
+        self.long_file = File(MOST_LONG_STRING, MOST_LONG_RECORD)
 
-    def open_group(self, name, c_only):
+    def open_group(self, name, c_only, long):
         """The calls that follow are of this group."""
-        self.name, self.c_only = name, c_only
+        self.name, self.c_only, self.long = name, c_only, long
 
     def count(self):
-        return sum(file.count() for file in self.files.values())
+        return sum(file.count() for file in (*self.files.values(), self.long_file))
 
-    def _add(self, call, page):
-        self.file_of[call].add(self.name, self.c_only, page)
+    def _add(self, call, *page):
+        (self.long_file if self.long else self.file_of[call]).add(self.name, self.c_only, call, *page)
 
     def decode_counters(self, q, k, b, table, page, thresholds, lengths=None, counters=ref.ZEROED, expect=None):
         """The counters stand before the counts, and hold after the call what they held before it."""
