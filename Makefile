@@ -6,13 +6,14 @@
 #   make demo                   prove crate by crate, build, and run the charger example
 #   make screen                 the bench screen example: a page after each pass, then coloured by its margins, and why a
 #                               symbol of it is left
-#   make branches, outer        the examples of two branches and of the outer check
+#   make branches, outer, cells the examples of two branches, of the outer check and of 16-bit readings
 #   make board                  the charger example on an emulated Cortex-M4 board
 #   make test-c                 the C tests over the archive for x86-64
 #   make test-targets           the archives for the other processors: all built, four run under emulation
 #   make install PREFIX=..      headers, archive and pkg-config file; TARGET=.. as above
-#   make bench                  the library against C, decode in blocks against decode, and decode on bits against decode
-#                               at q = 3: times, and instructions a data byte; TARGET=x86-64-v3 for AVX2
+#   make bench                  the library against C, decode in blocks against decode, decode on bits against decode at
+#                               q = 3, and decode on symbols of two and four bytes against decode and against C: times, and
+#                               instructions a data symbol; TARGET=x86-64-v3 for AVX2
 #   make votes                  build/votes/libvotes.a, both votes alone, which bench/votes measures
 #   make pages, check-pages     make the reference pages, and what the examples must print, anew; compare them with the
 #                               committed ones
@@ -42,7 +43,7 @@ endif
 
 .NOTPARALLEL:
 .DELETE_ON_ERROR:
-.PHONY: lib demo screen branches outer prove board test-c test-targets install bench votes pages check-pages clean
+.PHONY: lib demo screen branches outer cells prove board test-c test-targets install bench votes pages check-pages clean
 
 lib: $(ARCHIVE)
 
@@ -51,23 +52,21 @@ FLAGS := build/$(TARGET)/flags
 $(shell mkdir -p build/$(TARGET); echo '$(TARGET_FLAGS)' | cmp -s - $(FLAGS) || echo '$(TARGET_FLAGS)' >$(FLAGS))
 
 ifeq ($(TARGET)$(TARGET_FLAGS),x86-64)
-# rt's account of the proofs goes into build/prove.log, and is shown where it fails.
-$(ARCHIVE): $(SOURCES) $(FLAGS) targets/exports targets/join
-	@echo "building the archive .."
-	@for crate in $(EXPORTS); do \
-	  $(RT) staticlib $$crate >build/prove.log 2>&1 || { cat build/prove.log; exit 1; }; \
-	done
-	RT=$(RT) targets/join $@
+$(ARCHIVE): build/modules/made targets/join $(FLAGS)
+	RT=$(RT) targets/join build/modules $@
 else
-$(ARCHIVE): $(EXPORTS:%=build/modules/%.ll) targets/archive targets/list targets/exports $(FLAGS)
+$(ARCHIVE): build/modules/made targets/archive targets/list $(FLAGS)
 	RT=$(RT) targets/archive $(TARGET) build/modules $@ $(TARGET_FLAGS)
 endif
 
-# What the kit compiles for x86-64, before it does so.
-build/modules/%.ll: $(SOURCES) targets/module
+# Each export crate as the kit compiles it for x86-64, and its module for other processors; as many at a time as there are
+# processors. rt's account of the proofs goes into build/prove.log, and is shown where it fails.
+build/modules/made: $(SOURCES) targets/module targets/exports
 	@mkdir -p build/modules
-	@echo "taking the module of $* .."
-	@RT=$(RT) targets/module $* $@
+	@echo "building the objects of the archive .."
+	@$(RT) check $(EXPORTS) >build/prove.log 2>&1 || { cat build/prove.log; exit 1; }
+	@echo $(EXPORTS) | RT=$(RT) xargs -n 1 -P "$$(nproc)" sh -c 'targets/module "$$1" build/modules' module
+	@touch $@
 
 # The export crates and those that they build on, each after those it depends on; the first time this takes some minutes.
 prove:
@@ -87,13 +86,13 @@ prove:
 	done
 
 demo: EXAMPLE = charger
-screen branches outer: EXAMPLE = $@
-demo screen branches outer:
+screen branches outer cells: EXAMPLE = $@
+demo screen branches outer cells:
 	@$(MAKE) -s -q build/x86-64/libqmtd.a || $(MAKE) -s prove lib
 	@$(MAKE) -s build/$(EXAMPLE)
 	@build/$(EXAMPLE)
 
-build/charger build/screen build/branches build/outer: build/%: examples/%.c $(HEADERS) build/x86-64/libqmtd.a
+build/charger build/screen build/branches build/outer build/cells: build/%: examples/%.c $(HEADERS) build/x86-64/libqmtd.a
 	$(CC) $(CFLAGS) -Iinclude $< build/x86-64/libqmtd.a -o $@
 
 board:
@@ -119,8 +118,10 @@ bench: lib
 	TARGET=$(TARGET) bench/run
 	TARGET=$(TARGET) bench/run --outer
 	TARGET=$(TARGET) bench/run --bits
+	TARGET=$(TARGET) bench/run --wide
 	@if command -v valgrind >/dev/null; then \
-	   TARGET=$(TARGET) bench/count && TARGET=$(TARGET) bench/count --outer && TARGET=$(TARGET) bench/count --bits; \
+	   TARGET=$(TARGET) bench/count && TARGET=$(TARGET) bench/count --outer && TARGET=$(TARGET) bench/count --bits && \
+	   TARGET=$(TARGET) bench/count --wide; \
 	 else echo "no valgrind: instructions not counted"; fi
 
 votes: build/votes/libvotes.a

@@ -16,12 +16,9 @@
  *   --passes        the library alone: decode with one threshold beside open and one pass with it */
 #define _POSIX_C_SOURCE 199309L
 #include "calls.h"
+#include "codes.h"
 #include "measure.h"
 #include "qmtd_bits.h"
-
-#include <stdio.h>
-#include <stdlib.h>
-#include <string.h>
 
 /* ---- The implementations ---- */
 
@@ -124,10 +121,6 @@ DECODE_OUTER(16)
 
 /* ---- Codes, pages and rows ---- */
 
-struct code {
-    uint32_t k, b, positions, spread; /* positions of each branch */
-};
-
 /* The first is the example of document 01; spread is coprime to k. */
 static const struct code codes[] = {{13, 1, 4, 1},      {1021, 1, 12, 388}, {4096, 1, 10, 1531},
                                     {4096, 1, 32, 1531}, {1024, 2, 8, 387},  {1024, 4, 8, 387}};
@@ -190,53 +183,6 @@ struct answer {
     uint8_t page[QMTD_MAX_PAGE_LEN], result[QMTD_MAX_DATA], syndrome[QMTD_MAX_K], difference[QMTD_MAX_DATA];
     uint8_t margins[QMTD_MARGINS_LEN(QMTD_MAX_DATA, 1)], counts[QMTD_COUNTS_LEN];
 };
-
-/* Takes the next position of a run: the first above the last one that gives no difference twice; taken has a flag for
- * each difference of all runs. Was there one? */
-static int take_position(uint32_t k, uint32_t *run, uint32_t n, uint8_t *taken)
-{
-    for (uint32_t p = n == 0 ? 0 : run[n - 1] + 1; p < k; p++) {
-        uint8_t trial[QMTD_MAX_K];
-        memcpy(trial, taken, k);
-        uint32_t a = 0;
-        for (; a < n; a++) {
-            uint32_t d = p - run[a];
-            if (trial[d]++ || trial[k - d]++)
-                break;
-        }
-        if (a < n)
-            continue;
-        memcpy(taken, trial, k);
-        run[n] = p;
-        return 1;
-    }
-    return 0;
-}
-
-/* Makes a table greedily, the runs in turn. All positions are then multiplied by the spread, which keeps the
- * differences apart, so that they lie all over the ring. */
-static void make_table(const struct code *code, uint8_t *table)
-{
-    uint32_t k = code->k, runs[QMTD_MAX_B][QMTD_MAX_J];
-    uint8_t taken[QMTD_MAX_K] = {0};
-    for (uint32_t n = 0; n < code->positions; n++)
-        for (uint32_t r = 0; r < code->b; r++)
-            if (!take_position(k, runs[r], n, taken)) {
-                fprintf(stderr, "no table with k = %u, b = %u and %u positions a branch\n", (unsigned)k,
-                        (unsigned)code->b, (unsigned)code->positions);
-                exit(1);
-            }
-    for (uint32_t r = 0; r < code->b; r++) {
-        uint8_t used[QMTD_MAX_K] = {0};
-        for (uint32_t a = 0; a < code->positions; a++)
-            used[runs[r][a] * code->spread % k] = 1;
-        for (uint32_t p = 0; p < k; p++)
-            if (used[p]) {
-                *table++ = (uint8_t)p;
-                *table++ = (uint8_t)(p >> 8);
-            }
-    }
-}
 
 /* Encodes the row's data, on bits or with an outer check where that is compared. */
 static uint32_t encode_row(struct row *row)

@@ -2,6 +2,7 @@
  * step that went wrong. The one thing that the archive may ask for from outside, memset, is here. */
 #include "qmtd.h"
 #include "qmtd_bits.h"
+#include "qmtd_wide.h"
 
 #include <stddef.h>
 
@@ -177,6 +178,62 @@ static int run_bits(void)
     return 0;
 }
 
+/* Symbols of two bytes and of four: case 9 with values that wrap. Symbols 0 and 1 are received as q - 7 and 3, so that S
+ * is q - 7 at checks 0, 4 and 6, q - 4 at check 1, and 3 at checks 2, 5 and 7. */
+static uint8_t wide_data[4 * K], wide_page[8 * K], wide_result[4 * K], wide_syndrome[4 * K], wide_difference[4 * K];
+static const uint8_t wide_zeros[4 * K];
+
+/* Makes the calls of one width; each step that goes wrong has a number from `first` on. */
+#define RUN_WIDE(width, w, type, first)                                                                                \
+    static int run_##width(void)                                                                                       \
+    {                                                                                                                  \
+        const type less_7 = (type)-7, less_4 = (type)-4, less_3 = (type)-3;                                            \
+        if (qmtd_##width##_check_table(K, 1, table, sizeof table) != QMTD_OK ||                                        \
+            qmtd_##width##_check_table(12, 1, table, sizeof table) != QMTD_NOT_SELF_ORTHOGONAL)                        \
+            return first;                                                                                              \
+        qmtd_##width##_put_symbol(wide_data, 0, less_7);                                                               \
+        qmtd_##width##_put_symbol(wide_data, 1, 3);                                                                    \
+        if (qmtd_##width##_encode(K, 1, table, sizeof table, wide_data, w * K, wide_page, w * 2 * K) != QMTD_OK ||     \
+            !same(wide_page, wide_data, w * K) || qmtd_##width##_symbol(wide_page, K) != less_7 ||                     \
+            qmtd_##width##_symbol(wide_page, K + 1) != less_4 || qmtd_##width##_symbol(wide_page, K + 7) != 3 ||       \
+            qmtd_##width##_encode(K, 1, table, sizeof table, wide_data, w * K - 1, wide_page, w * 2 * K) !=            \
+                QMTD_BAD_LENGTH)                                                                                       \
+            return first + 1;                                                                                          \
+        if (qmtd_##width##_syndrome(K, 1, table, sizeof table, wide_page, w * 2 * K, wide_syndrome, w * K) !=          \
+                QMTD_OK ||                                                                                             \
+            !same(wide_syndrome, wide_zeros, w * K))                                                                   \
+            return first + 2;                                                                                          \
+        for (size_t i = w * K; i < w * 2 * K; i++)                                                                     \
+            wide_page[i] = 0;                                                                                          \
+        if (qmtd_##width##_decode(K, 1, table, sizeof table, wide_page, w * 2 * K, thresholds, sizeof thresholds,      \
+                                  wide_result, w * K, wide_syndrome, w * K, wide_difference, w * K,                    \
+                                  margins, sizeof margins, counts, sizeof counts) != QMTD_OK ||                        \
+            !same(wide_result, wide_zeros, w * K) || !same(wide_syndrome, wide_zeros, w * K) ||                        \
+            qmtd_##width##_symbol(wide_difference, 0) != 7 || qmtd_##width##_symbol(wide_difference, 1) != less_3 ||   \
+            !same(counts, expected_counts, sizeof counts) || qmtd_margin(margins, 1) != 3 ||                           \
+            qmtd_margin(margins, 2) != 5)                                                                              \
+            return first + 3;                                                                                          \
+        if (qmtd_##width##_open(K, 1, table, sizeof table, wide_page, w * 2 * K, wide_result, w * K,                   \
+                                wide_syndrome, w * K, wide_difference, w * K) != QMTD_OK ||                            \
+            !same(wide_result, wide_data, w * K) || qmtd_##width##_symbol(wide_syndrome, 1) != less_4 ||               \
+            !same(wide_difference, wide_zeros, w * K))                                                                 \
+            return first + 4;                                                                                          \
+        if (qmtd_##width##_explain(K, 1, table, sizeof table, 0, 0, wide_result, w * K, wide_syndrome, w * K,          \
+                                   wide_difference, w * K, answer, sizeof answer) != QMTD_OK ||                        \
+            qmtd_number(answer) != QMTD_GROUND_CHANGE || qmtd_number(answer + 4) != less_7 ||                          \
+            qmtd_number(answer + 8) != 3 || qmtd_number(answer + 12) != 1 || answer[16] != 26)                         \
+            return first + 5;                                                                                          \
+        if (qmtd_##width##_pass(K, 1, table, sizeof table, 0, wide_result, w * K, wide_syndrome, w * K,                \
+                                wide_difference, w * K, changes, sizeof changes) != QMTD_OK ||                         \
+            !same(wide_result, wide_zeros, w * K) || !same(wide_syndrome, wide_zeros, w * K) ||                        \
+            !same(changes, expected_changes, sizeof changes))                                                          \
+            return first + 6;                                                                                          \
+        return 0;                                                                                                      \
+    }
+
+RUN_WIDE(u16, QMTD_U16_WIDTH, uint16_t, 22)
+RUN_WIDE(u32, QMTD_U32_WIDTH, uint32_t, 29)
+
 int run(void);
 
 int run(void)
@@ -222,5 +279,6 @@ int run(void)
         return 13;
     if (decode_outer(K) != QMTD_OK || !decoded_outer() || decode_outer(1) != QMTD_BAD_BLOCK || !decoded_outer())
         return 14;
-    return run_bits();
+    const int bits = run_bits(), u16 = bits != 0 ? bits : run_u16();
+    return u16 != 0 ? u16 : run_u32();
 }

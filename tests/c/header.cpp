@@ -4,6 +4,8 @@
 #include "qmtd.h"
 #include "qmtd_bits.h"
 #include "qmtd_bits.h"
+#include "qmtd_wide.h"
+#include "qmtd_wide.h"
 
 int main()
 {
@@ -12,9 +14,17 @@ int main()
                                         QMTD_POSITION(260), QMTD_POSITION(4095)};
     static const uint8_t numbers[] = {255, 255, 255, 255, 1, 2, 3, 4};
     static const uint8_t margins[] = {33, 0, 0, 0, 223, 255, 255, 255, 255, 255, 255, 255, 0, 0, 0, 0};
+    uint8_t symbols[QMTD_WIDE_DATA_LEN(QMTD_U32_WIDTH, 2, 1)] = {0};
+    qmtd_u32_put_symbol(symbols, 1, 0xFFFEFDFC);
+    qmtd_u16_put_symbol(symbols, 1, 0x0201);
     const bool right = qmtd_version() == QMTD_VERSION_NUMBER &&
                        qmtd_check_table(QMTD_MAX_Q, 13, 1, table, sizeof table) == QMTD_OK &&
                        qmtd_bits_check_table(2, 13, 1, table, sizeof table) == QMTD_OK &&
+                       qmtd_u16_check_table(13, 1, table, sizeof table) == QMTD_OK &&
+                       qmtd_u32_check_table(12, 1, table, sizeof table) == QMTD_NOT_SELF_ORTHOGONAL &&
+                       sizeof symbols == 8 && symbols[2] == 1 && symbols[3] == 2 && symbols[4] == 0xFC &&
+                       qmtd_u16_symbol(symbols, 3) == 0xFFFE && qmtd_u32_symbol(symbols, 0) == 0x02010000 &&
+                       qmtd_u32_symbol(symbols, 1) == 0xFFFEFDFC &&
                        sizeof positions == 8 && positions[0] == 255 && positions[1] == 0 &&
                        positions[2] == 0 && positions[3] == 1 && positions[4] == 4 && positions[5] == 1 &&
                        positions[6] == 255 && positions[7] == 15 &&

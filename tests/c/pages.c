@@ -7,12 +7,13 @@
  * one in both. The pages of decode run twice more with counters, which must change nothing. */
 #include "qmtd.h"
 #include "qmtd_bits.h"
+#include "qmtd_wide.h"
 
 #include <stdio.h>
 #include <stdlib.h>
 #include <string.h>
 
-enum { MAX_RECORD = 40960, MAX_NUMBERS = 8, MAX_PIECES = 10, GUARD_LEN = 64, GUARD = 0xC3 };
+enum { MAX_RECORD = 102400, MAX_NUMBERS = 8, MAX_PIECES = 10, GUARD_LEN = 64, GUARD = 0xC3 };
 enum { GIVES_BEFORE = 1, GIVES_AFTER = 2 };
 
 /* One piece of lent memory: what it holds before the call and must hold after it, null where the page does not say. */
@@ -113,6 +114,53 @@ static uint32_t bits_explain(const uint32_t *n, const struct piece *p)
     return qmtd_bits_explain(n[0], n[1], n[2], LENT(p[0]), n[3], n[4], LENT(p[1]), LENT(p[2]), LENT(p[3]), LENT(p[4]));
 }
 
+/* The calls on symbols of one width. */
+#define WIDE_CALLS(width)                                                                                              \
+    static uint32_t width##_check_table(const uint32_t *n, const struct piece *p)                                      \
+    {                                                                                                                  \
+        return qmtd_##width##_check_table(n[0], n[1], LENT(p[0]));                                                     \
+    }                                                                                                                  \
+    static uint32_t width##_encode(const uint32_t *n, const struct piece *p)                                           \
+    {                                                                                                                  \
+        return qmtd_##width##_encode(n[0], n[1], LENT(p[0]), LENT(p[1]), LENT(p[2]));                                  \
+    }                                                                                                                  \
+    static uint32_t width##_syndrome(const uint32_t *n, const struct piece *p)                                         \
+    {                                                                                                                  \
+        return qmtd_##width##_syndrome(n[0], n[1], LENT(p[0]), LENT(p[1]), LENT(p[2]));                                \
+    }                                                                                                                  \
+    static uint32_t width##_decode(const uint32_t *n, const struct piece *p)                                           \
+    {                                                                                                                  \
+        return qmtd_##width##_decode(n[0], n[1], LENT(p[0]), LENT(p[1]), LENT(p[2]), LENT(p[3]), LENT(p[4]),           \
+                                     LENT(p[5]), LENT(p[6]), LENT(p[7]));                                              \
+    }                                                                                                                  \
+    static uint32_t width##_open(const uint32_t *n, const struct piece *p)                                             \
+    {                                                                                                                  \
+        return qmtd_##width##_open(n[0], n[1], LENT(p[0]), LENT(p[1]), LENT(p[2]), LENT(p[3]), LENT(p[4]));            \
+    }                                                                                                                  \
+    static uint32_t width##_pass(const uint32_t *n, const struct piece *p)                                             \
+    {                                                                                                                  \
+        return qmtd_##width##_pass(n[0], n[1], LENT(p[0]), n[2], LENT(p[1]), LENT(p[2]), LENT(p[3]), LENT(p[4]));      \
+    }                                                                                                                  \
+    static uint32_t width##_explain(const uint32_t *n, const struct piece *p)                                          \
+    {                                                                                                                  \
+        return qmtd_##width##_explain(n[0], n[1], LENT(p[0]), n[2], n[3], LENT(p[1]), LENT(p[2]), LENT(p[3]),          \
+                                      LENT(p[4]));                                                                     \
+    }
+
+WIDE_CALLS(u16)
+WIDE_CALLS(u32)
+
+/* Their entries below. */
+#define WIDE_ENTRIES(width)                                                                                            \
+    {#width "_check_table", 2, {"table"}, width##_check_table},                                                        \
+    {#width "_encode", 2, {"table", "data", "page"}, width##_encode},                                                  \
+    {#width "_syndrome", 2, {"table", "page", "syndrome"}, width##_syndrome},                                          \
+    {#width "_decode", 2, {"table", "page", "thresholds", "result", "syndrome", "difference", "margins", "counts"},    \
+     width##_decode},                                                                                                  \
+    {#width "_open", 2, {"table", "page", "result", "syndrome", "difference"}, width##_open},                          \
+    {#width "_pass", 3, {"table", "result", "syndrome", "difference", "changes"}, width##_pass},                       \
+    {#width "_explain", 4, {"table", "result", "syndrome", "difference", "answer"}, width##_explain}
+
 /* The calls by their number in the file: name, how many numbers each takes, the names of its pieces, the call itself.
  * Number 0 is no call: it opens a group, whose name is the piece. */
 static const struct call {
@@ -142,6 +190,8 @@ static const struct call {
     {"bits_open", 3, {"table", "page", "result", "syndrome", "difference"}, bits_open},
     {"bits_pass", 4, {"table", "result", "syndrome", "difference", "changes"}, bits_pass},
     {"bits_explain", 5, {"table", "result", "syndrome", "difference", "answer"}, bits_explain},
+    WIDE_ENTRIES(u16),
+    WIDE_ENTRIES(u32),
 };
 enum { OPEN_GROUP = 0, DECODE = 4, DECODE_COUNTERS = 8, CALLS = sizeof calls / sizeof calls[0] };
 

@@ -1,14 +1,16 @@
-/* stack.c - the stack that the calls use, against the 9 KiB that the header tells a caller to allow. Each call runs on
- * a stack of its own, filled with a pattern before; what no longer holds the pattern was used. */
+/* stack.c - the stack that the calls use, against what the headers tell a caller to allow: 9 KiB, and QMTD_WIDE_STACK
+ * for symbols of two bytes and of four. Each call runs on a stack of its own, filled with a pattern before; what no
+ * longer holds the pattern was used. */
 #define _DEFAULT_SOURCE
 #include "qmtd.h"
 #include "qmtd_bits.h"
+#include "qmtd_wide.h"
 
 #include <stdio.h>
 #include <string.h>
 
 enum { K = QMTD_MAX_K, N = QMTD_MAX_DATA, PAIRS_K = N / QMTD_MAX_B, BLOCK = 16 };
-enum { STACK = 65536, FILL = 0xA7, ALLOWED = 9216 };
+enum { STACK = 131072, FILL = 0xA7, ALLOWED = 9216 };
 
 /* One branch: a Golomb ruler of 10 marks. Eight branches: two positions each. */
 static const uint8_t ruler[] = {0, 0, 1, 0, 6, 0, 10, 0, 23, 0, 26, 0, 34, 0, 41, 0, 53, 0, 55, 0};
@@ -16,15 +18,20 @@ static const uint8_t pairs[] = {0, 0, 1, 0, 0, 0, 2, 0, 0, 0, 3, 0, 0, 0, 4, 0,
                                 0, 0, 5, 0, 0, 0, 6, 0, 0, 0, 7, 0, 0, 0, 8, 0};
 static const uint8_t thresholds[] = {2, 1, 0, 0};
 
-/* The code of the calls below. */
+/* The code of the calls below; those on wide symbols have one for each number of data symbols that their arrays have. */
 static const struct code {
     const char *name;
     uint32_t k, b;
     const uint8_t *table;
     size_t table_len;
-} codes[] = {{"b = 1", K, 1, ruler, sizeof ruler}, {"b = 8", PAIRS_K, QMTD_MAX_B, pairs, sizeof pairs}}, *code;
+} codes[] = {{"b = 1", K, 1, ruler, sizeof ruler}, {"b = 8", PAIRS_K, QMTD_MAX_B, pairs, sizeof pairs}},
+  wide_codes[] = {{"k = 128", 128, 1, ruler, sizeof ruler},
+                  {"k = 128, b = 8", 128, QMTD_MAX_B, pairs, sizeof pairs},
+                  {"k = 4096", K, 1, ruler, sizeof ruler}}, *code;
 
-static uint8_t data[N], bits[N], page[QMTD_MAX_PAGE_LEN], result[N], syndrome[K], difference[N];
+/* Long enough for symbols of four bytes. */
+enum { W = QMTD_U32_WIDTH };
+static uint8_t data[W * N], bits[N], page[W * QMTD_MAX_PAGE_LEN], result[W * N], syndrome[W * K], difference[W * N];
 static uint8_t margins[QMTD_MARGINS_LEN(N, 1)], counts[QMTD_COUNTS_LEN], changes[QMTD_CHANGES_LEN];
 static uint8_t answer[QMTD_ANSWER_LEN], counters[QMTD_COUNTERS_LEN];
 static uint8_t stack[STACK] __attribute__((aligned(16)));
@@ -128,6 +135,48 @@ static void bits_explain(void)
     number = qmtd_bits_explain(BIT_CODE, 0, N - 1, result, N, syndrome, code->k, difference, N, answer, sizeof answer);
 }
 
+/* The seven on symbols of w bytes. */
+#define WIDE_CALLS(width, w)                                                                                           \
+    static void width##_check_table(void)                                                                              \
+    {                                                                                                                  \
+        number = qmtd_##width##_check_table(WIDE_CODE);                                                                \
+    }                                                                                                                  \
+    static void width##_encode(void)                                                                                   \
+    {                                                                                                                  \
+        number = qmtd_##width##_encode(WIDE_CODE, data, w * DATA, page, w * (DATA + code->k));                         \
+    }                                                                                                                  \
+    static void width##_syndrome(void)                                                                                 \
+    {                                                                                                                  \
+        number = qmtd_##width##_syndrome(WIDE_CODE, page, w * (DATA + code->k), syndrome, w * code->k);                \
+    }                                                                                                                  \
+    static void width##_decode(void)                                                                                   \
+    {                                                                                                                  \
+        number = qmtd_##width##_decode(WIDE_CODE, page, w * (DATA + code->k), thresholds, sizeof thresholds,           \
+                                       result, w * DATA, syndrome, w * code->k, difference, w * DATA,                  \
+                                       margins, QMTD_MARGINS_LEN(DATA, 1), counts, sizeof counts);                     \
+    }                                                                                                                  \
+    static void width##_open(void)                                                                                     \
+    {                                                                                                                  \
+        number = qmtd_##width##_open(WIDE_CODE, page, w * (DATA + code->k), result, w * DATA, syndrome, w * code->k,   \
+                                     difference, w * DATA);                                                            \
+    }                                                                                                                  \
+    static void width##_pass(void)                                                                                     \
+    {                                                                                                                  \
+        number = qmtd_##width##_pass(WIDE_CODE, 0, result, w * DATA, syndrome, w * code->k, difference, w * DATA,      \
+                                     changes, sizeof changes);                                                         \
+    }                                                                                                                  \
+    static void width##_explain(void)                                                                                  \
+    {                                                                                                                  \
+        number = qmtd_##width##_explain(WIDE_CODE, 0, DATA - 1, result, w * DATA, syndrome, w * code->k,               \
+                                        difference, w * DATA, answer, sizeof answer);                                  \
+    }
+
+#define DATA QMTD_DATA_LEN(code->k, code->b)
+#define WIDE_CODE code->k, code->b, code->table, code->table_len
+
+WIDE_CALLS(u16, QMTD_U16_WIDTH)
+WIDE_CALLS(u32, QMTD_U32_WIDTH)
+
 static void idle(void)
 {
     number = QMTD_OK;
@@ -174,6 +223,41 @@ static size_t used_by(void (*call)(void))
     return sizeof stack - free_bytes;
 }
 
+/* Makes a call on the code at hand and prints what it used. Was it done, within what is allowed? */
+static int fits(const char *name, void (*call)(void), size_t around, size_t allowed)
+{
+    size_t used = used_by(call) - around;
+    printf("%s, %-16s %lu bytes of stack\n", code->name, name, (unsigned long)used);
+    return number == QMTD_OK && used <= allowed;
+}
+
+/* The calls on wide symbols; the page is damaged between those before decode and it. Are all within the macro? */
+static int wide_fits(size_t around)
+{
+    static const struct {
+        const char *name;
+        void (*call)(void);
+        uint32_t w;
+    } calls[] = {{"u16_check_table", u16_check_table, 2}, {"u16_encode", u16_encode, 2},
+                 {"u16_syndrome", u16_syndrome, 2}, {"u16_decode", u16_decode, 2}, {"u16_open", u16_open, 2},
+                 {"u16_pass", u16_pass, 2}, {"u16_explain", u16_explain, 2},
+                 {"u32_check_table", u32_check_table, 4}, {"u32_encode", u32_encode, 4},
+                 {"u32_syndrome", u32_syndrome, 4}, {"u32_decode", u32_decode, 4}, {"u32_open", u32_open, 4},
+                 {"u32_pass", u32_pass, 4}, {"u32_explain", u32_explain, 4}};
+    int right = 1;
+    for (size_t i = 0; i < sizeof data; i++)
+        data[i] = (uint8_t)(i * 7 + i / 256);
+    for (size_t c = 0; c < sizeof wide_codes / sizeof wide_codes[0]; c++)
+        for (size_t i = 0; i < sizeof calls / sizeof calls[0]; i++) {
+            code = &wide_codes[c];
+            right &= fits(calls[i].name, calls[i].call, around, QMTD_WIDE_STACK(calls[i].w, code->k, code->b));
+            for (size_t at = 0; (calls[i].call == u16_encode || calls[i].call == u32_encode) &&
+                                at < calls[i].w * (DATA + code->k); at += 200)
+                page[at] ^= 1;
+        }
+    return right;
+}
+
 int main(void)
 {
     static const struct {
@@ -194,13 +278,12 @@ int main(void)
     for (size_t c = 0; c < sizeof codes / sizeof codes[0]; c++)
         for (size_t i = 0; i < sizeof calls / sizeof calls[0]; i++) {
             code = &codes[c];
-            size_t used = used_by(calls[i].call) - around;
-            printf("%s, %-16s %lu bytes of stack\n", code->name, calls[i].name, (unsigned long)used);
-            wrong |= number != QMTD_OK || used > ALLOWED;
+            wrong |= !fits(calls[i].name, calls[i].call, around, ALLOWED);
             /* The page is damaged before it is decoded. */
             uint8_t q = calls[i].call == encode ? 251 : calls[i].call == bits_encode ? 2 : 0;
             for (size_t at = 0; q != 0 && at < N + code->k; at += 100)
                 page[at] = (uint8_t)((page[at] + 1) % q);
         }
+    wrong |= !wide_fits(around);
     return wrong;
 }
