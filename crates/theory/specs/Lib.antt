@@ -31,6 +31,8 @@ pub mod Profiles
 pub mod BitVote
 pub mod WideBytes
 pub mod WideCalls
+pub mod FileBytes
+pub mod Files
 pub mod Statements
 pub mod InBlocks
 pub mod Turns

@@ -17,6 +17,7 @@ use Rattle.model.specs.Calls.{Test, test, firstThatApplies, within, tableTests,
 use Rattle.model.specs.Code.{Profile, lowest, highest, Code, codeOf, dataCount, checkCount, pageLength, checksEach, checksBy, checksOf, checkSumBy, checkSymbol, checkSymbols, codeWord, syndrome, dataOf, receivedChecks, SelfOrthogonal, differencesBy, differences, allDifferent}
 use Rattle.model.specs.Decoder.{State, Visit, estimates, isChange, change, changes, visit, after, changeCount, passes, dataSymbols, opened, passesOf, run, distanceTo, Counts, decodedState, decodedCounts, marginsOf, pass, isIdle, none, thresholdsRun, firstSmaller, stateWeight}
 use Rattle.model.specs.Demand.{VisitFalls, Falls, RunFalls, DecodeFalls, PassFalls, Encodes, Recovers, DecodeRecovers, smallest, EncodesOuter, OuterFalls, OuterRecovers}
+use Rattle.model.specs.Files.{countOf, readAnswer, readOutcome, Listing, pageCount, fileOf, writeAnswer, writeOutcome, Writable, ReadsBack, KeepsRest}
 use Rattle.model.specs.Limits.{TableLimits, Limits}
 use Rattle.model.specs.Outer.{blockSum, blockCount, outerWord, reliabilityOf, leastBelow, weakest, isStep, outerSteps, stepCount, outerState, outerCounts}
 use Rattle.model.specs.Symbols.{choose, add, sub, same, count, tabulate, addEach, subEach, Below}
@@ -32,6 +33,7 @@ use Rattle.theory.specs.Decoding.{OnPage, on-distance, code-on, code-fal
 use Rattle.theory.specs.Distance.{length-tabulate, tabulate-ext}
 use Rattle.theory.specs.Explaining.{Ground, ground-is, bits-at, bits-ones, bits-below}
 use Rattle.theory.specs.Falling.{InRange, visit-no, visit-yes, weight-falls, unchanged, falls-spent, changes-spent, falls-at}
+use Rattle.theory.specs.Files.{readable-writable, reads-back, listing-unique, rest-kept, found-inside, read-some, write-some}
 use Rattle.theory.specs.Integers.{Least}
 use Rattle.theory.specs.Margins.{margin-low, margin-high, margin-top, margin-bottom, margin-behind, other-zero, margin-stays, margin-at}
 use Rattle.theory.specs.Modulo.{sub-lt, sub-add, sub-two-cases}
@@ -803,3 +805,44 @@ pub record WideSymbols (w : ℕ) : Type 0 where
 
 pub wide-symbols : (w : ℕ) → 0 < w → WideSymbols w
 wide-symbols w h = record { read-back = symbols-back w h; written-back = bytes-of-symbols w h; low = symbols-below w; fits = fits-bytes w h }
+
+-- ---- 14. a file of pages (N11)
+
+-- "What the reader accepts is exactly what the writer can write": bytes are accepted with a place if and only if the place is below their count and the
+-- writer, from some listing, writes just these bytes into an output of their length (Writable).
+pub file-accepted : (file : List ℕ) → Below 256 file → (place : ℕ) → (readAnswer true file place ≡ 0) ↔ ((place < countOf file) × Writable file)
+file-accepted = readable-writable
+
+-- "each place of a written file reads back as the page number, q − 1 and body listed there" (ReadsBack): the file is the front of the output, as much of it
+-- as the length says that the writer hands back.
+pub file-back : (l : Listing) (output : List ℕ) → Below 65536 (l .numbers) → writeAnswer true l (length output) ≡ 0 → (place : ℕ) → place < pageCount l
+    → ReadsBack (take (writeOutcome l output .left .size) (writeOutcome l output .left .output)) l place
+file-back = reads-back
+
+-- Two listings that the writer takes, and that give one file, are equal.
+pub file-listing : (l m : Listing) (a b : ℕ) → Below 65536 (l .numbers) → Below 65536 (m .numbers) → writeAnswer true l a ≡ 0 → writeAnswer true m b ≡ 0
+    → fileOf l ≡ fileOf m → l ≡ m
+file-listing = listing-unique
+
+-- "keeps the rest": whatever the writer answers, its output is as long as before and unaltered from the file's length on, which is 0 where it is refused
+-- (KeepsRest).
+pub file-rest : (l : Listing) (output : List ℕ) → KeepsRest l output
+file-rest = rest-kept
+
+-- What the reader hands out lies inside the file: in C, `length` bytes from `file + offset` on.
+pub file-inside : (file : List ℕ) (place : ℕ) → readOutcome file place .left .offset + readOutcome file place .left .size ≤ length file
+file-inside = found-inside
+
+-- Nothing of what is taken is empty: not a file that is read, and of what the writer gets neither the lists nor the bodies nor the output.
+pub record NoneEmpty (l : Listing) (outputLength : ℕ) : Type 0 where
+  pub numbers : 0 < length (l .numbers)
+  pub tops : 0 < length (l .tops)
+  pub sizes : 0 < length (l .sizes)
+  pub bodies : 0 < length (l .bodies)
+  pub output : 0 < outputLength
+
+pub file-some : (file : List ℕ) (place : ℕ) → readAnswer true file place ≡ 0 → 0 < length file
+file-some = read-some
+
+pub listing-some : (l : Listing) (outputLength : ℕ) → writeAnswer true l outputLength ≡ 0 → NoneEmpty l outputLength
+listing-some l n e = let s = write-some l n e in record { numbers = s .0; tops = s .1; sizes = s .2; bodies = s .3; output = s .4 }
