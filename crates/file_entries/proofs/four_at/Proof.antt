@@ -1,0 +1,28 @@
+-- `four_at`: the number in four bytes is that of the first two and 65,536 times that of the others.
+use native.Mathlib.Omega.{arith}
+use Rattle.file_entries.specs.Entries.{four-bytes}
+use borrow.Author.Needs.{needs}
+use Rattle.file_entries.proofs.four_at.Statement.{statement}
+use Rattle.file_entries.proofs.four_at.Tie as tie
+
+two-at-requires : tie.Need-two-at-requires
+two-at-requires c κs = search needs
+
+add-two-at : tie.Need-add-two-at
+add-two-at c = search needs
+
+two-at-requires-2 : tie.Need-two-at-requires-2
+two-at-requires-2 c κs = search needs
+
+mul-result : tie.Need-mul-result
+mul-result c = search needs
+
+add-result : tie.Need-add-result
+add-result c = search needs
+
+returns : tie.Need-returns
+returns c = let a = c .before .before .before .args in (omega (arith, four-bytes (a .s .now) (a .start) (omega arith)), omega arith)
+
+pub four-at-spec : {M : Type 1} → statement M
+four-at-spec =
+    tie.close (tie.spec two-at-requires add-two-at two-at-requires-2 mul-result add-result returns)

@@ -1,0 +1,46 @@
+-- `two_at`: the low byte and 256 times the high one.
+use native.Mathlib.Omega.{arith}
+use Rattle.file_entries.specs.Entries.{two-bytes}
+use borrow.Author.Needs.{needs}
+use Rattle.file_entries.proofs.two_at.Statement.{statement}
+use Rattle.file_entries.proofs.two_at.Tie as tie
+
+shared-slice-read-wide : tie.Need-shared-slice-read-wide
+shared-slice-read-wide c = search needs
+
+wide-requires : tie.Need-wide-requires
+wide-requires c κs = search needs
+
+add-wide : tie.Need-add-wide
+add-wide c = search needs
+
+shared-slice-read-wide-2 : tie.Need-shared-slice-read-wide-2
+shared-slice-read-wide-2 c = search needs
+
+wide-requires-2 : tie.Need-wide-requires-2
+wide-requires-2 c κs = search needs
+
+mul-result : tie.Need-mul-result
+mul-result c = search needs
+
+add-result : tie.Need-add-result
+add-result c = search needs
+
+returns : tie.Need-returns
+returns c =
+    let at5 = c .before .before .before .before .before in
+    let a = at5 .args in
+    (omega (arith, two-bytes (a .s .now) (a .start) (omega arith)), omega arith)
+
+pub two-at-spec : {M : Type 1} → statement M
+two-at-spec =
+    tie.close
+    (tie.spec
+    shared-slice-read-wide
+    wide-requires
+    add-wide
+    shared-slice-read-wide-2
+    wide-requires-2
+    mul-result
+    add-result
+    returns)

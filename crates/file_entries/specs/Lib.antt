@@ -1,0 +1,2 @@
+-- The laws of entries as structs and as bytes.
+pub mod Entries

@@ -1,0 +1,2 @@
+-- The laws of the writer's loops and answers.
+pub mod Steps

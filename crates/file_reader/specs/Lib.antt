@@ -1,0 +1,2 @@
+-- The laws of the reader's loops and answers.
+pub mod Turns
