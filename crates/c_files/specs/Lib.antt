@@ -1,0 +1,2 @@
+-- The laws of lists that are read from bytes.
+pub mod Lists
