@@ -1,7 +1,8 @@
-"""What the examples charger.c, branches.c, outer.c and cells.c print, by the reference program: the same data, damage and
-layout, but the code words, the decodes and the counts are those of reference.py, for cells.c of wide.py. `screen.py` does
-so for screen.c."""
+"""What the examples charger.c, branches.c, outer.c, cells.c and files.c print, by the reference program: the same data,
+damage and layout, but the code words, the decodes and the counts are those of reference.py, for cells.c of wide.py, and
+the file is that of files.py. `screen.py` does so for screen.c."""
 
+import files as pages
 import reference as ref
 import wide
 from screen import draws
@@ -198,4 +199,41 @@ def cells():
     number, _ = wide.decode(*code, bytes(received[:-1]), thresholds, *wide.decode_lengths(w, k, b))
     lines += ["", "The last byte is lost:",
               f"  refused with {number}: the page ends within a symbol. Nothing was written."]
+    return text(lines)
+
+
+def files():
+    """Three pages of three packs, kept in a file, read back and decoded."""
+    k = 13
+    table = ref.table_of([0, 1, 4, 6])
+    packs = ((3, 256, [0, 0, 4, 8, 16, 24, 32, 40, 40, 32, 24, 8, 0]),
+             (7, 64, [0, 2, 6, 12, 20, 30, 48, 63, 60, 45, 30, 12, 0]),
+             (300, 41, [0, 0, 0, 5, 10, 20, 30, 40, 40, 40, 20, 0, 0]))
+    received = []
+    for i, (_, q, allowed) in enumerate(packs):
+        number, page = ref.encode(q, k, 1, table, allowed, 2 * k)
+        assert number == 0
+        for place in (3 + i, k + 9):
+            page[place] = (page[place] + 5) % q
+        received += page
+
+    number, length, file = pages.write([pack[0] for pack in packs], [pack[1] - 1 for pack in packs], [2 * k] * 3, received,
+                                       bytes(113))
+    assert number == 0
+    lines = [f"The bench keeps 3 pages, as received, in a file of {length} bytes. Read back and decoded:"]
+    for place, (_, _, allowed) in enumerate(packs):
+        number, entry = pages.read(file, place)
+        assert number == 0
+        number, got = ref.decode(entry.top + 1, k, 1, table, list(pages.body_of(file, entry)), [0, 0, 0],
+                                 *ref.decode_lengths(k, 1))
+        assert number == 0 and got.result == allowed
+        lines.append(f"  place {place}: page {entry.number:3}, q {entry.top + 1:3}, {entry.length} symbols at "
+                     f"{entry.offset:3}: changes {got.counts.changes}, distance {got.counts.start} at the start, "
+                     f"{got.counts.end} at the end, as sent")
+
+    file = pages.altered(file, {112: 41})
+    lines += ["", "The last symbol becomes 41, at q = 41. Asked for the first page:",
+              f"  refused with {pages.read(file, 0)[0]}", "The last byte is lost:",
+              f"  refused with {pages.read(file[:-1], 0)[0]}",
+              "A file says that it is whole, not that its pages are right: that is for decode and its bound."]
     return text(lines)
