@@ -6,7 +6,8 @@
 #   make demo                   prove crate by crate, build, and run the charger example
 #   make screen                 the bench screen example: a page after each pass, then coloured by its margins, and why a
 #                               symbol of it is left
-#   make branches, outer, cells the examples of two branches, of the outer check and of 16-bit readings
+#   make branches, outer, cells, files
+#                               the examples of two branches, of the outer check, of 16-bit readings and of a file of pages
 #   make board                  the charger example on an emulated Cortex-M4 board
 #   make test-c                 the C tests over the archive for x86-64
 #   make test-targets           the archives for the other processors: all built, four run under emulation
@@ -43,7 +44,7 @@ endif
 
 .NOTPARALLEL:
 .DELETE_ON_ERROR:
-.PHONY: lib demo screen branches outer cells prove board test-c test-targets install bench votes pages check-pages clean
+.PHONY: lib demo screen branches outer cells files prove board test-c test-targets install bench votes pages check-pages clean
 
 lib: $(ARCHIVE)
 
@@ -86,13 +87,13 @@ prove:
 	done
 
 demo: EXAMPLE = charger
-screen branches outer cells: EXAMPLE = $@
-demo screen branches outer cells:
+screen branches outer cells files: EXAMPLE = $@
+demo screen branches outer cells files:
 	@$(MAKE) -s -q build/x86-64/libqmtd.a || $(MAKE) -s prove lib
 	@$(MAKE) -s build/$(EXAMPLE)
 	@build/$(EXAMPLE)
 
-build/charger build/screen build/branches build/outer build/cells: build/%: examples/%.c $(HEADERS) build/x86-64/libqmtd.a
+build/charger build/screen build/branches build/outer build/cells build/files: build/%: examples/%.c $(HEADERS) build/x86-64/libqmtd.a
 	$(CC) $(CFLAGS) -Iinclude $< build/x86-64/libqmtd.a -o $@
 
 board:

@@ -3,6 +3,7 @@
 #include "qmtd.h"
 #include "qmtd_bits.h"
 #include "qmtd_wide.h"
+#include "qmtd_file.h"
 
 #include <stddef.h>
 
@@ -234,6 +235,32 @@ static const uint8_t wide_zeros[4 * K];
 RUN_WIDE(u16, QMTD_U16_WIDTH, uint16_t, 22)
 RUN_WIDE(u32, QMTD_U32_WIDTH, uint32_t, 29)
 
+/* Page 3 at q = 3 with the symbols 0, 2, and page 300 at q = 256 with 7, 255, 9. */
+static const uint8_t two_pages[] = {2, 0, 3, 0, 2, 24, 0, 0, 0, 2, 0, 0, 0, 44, 1, 255, 26, 0, 0, 0, 3, 0, 0, 0,
+                                    0, 2, 7, 255, 9};
+static const uint8_t numbers[] = {QMTD_FILE_NUMBER(3), QMTD_FILE_NUMBER(300)}, tops[] = {2, 255};
+static const uint8_t lengths[] = {QMTD_FILE_LENGTH(2), QMTD_FILE_LENGTH(3)}, bodies[] = {0, 2, 7, 255, 9};
+static const uint8_t second_page[QMTD_FILE_ENTRY_LEN] = {44, 1, 0, 0, 255, 0, 0, 0, 26, 0, 0, 0, 3, 0, 0, 0};
+static uint8_t file[sizeof two_pages + 1], length[QMTD_FILE_LENGTH_LEN], entry[QMTD_FILE_ENTRY_LEN];
+
+/* The calls on files. */
+static int run_files(void)
+{
+    file[sizeof two_pages] = 99;
+    if (qmtd_file_write(numbers, sizeof numbers, tops, sizeof tops, lengths, sizeof lengths, bodies, sizeof bodies, file,
+                        sizeof file, length, sizeof length) != QMTD_OK ||
+        !same(file, two_pages, sizeof two_pages) || file[sizeof two_pages] != 99 ||
+        qmtd_number(length) != sizeof two_pages)
+        return 40;
+    if (qmtd_file_read(file, sizeof two_pages, 1, entry, sizeof entry) != QMTD_OK ||
+        !same(entry, second_page, sizeof entry) ||
+        qmtd_file_read(file, sizeof file, 1, entry, sizeof entry) != QMTD_BAD_BODY ||
+        qmtd_file_read(file, sizeof two_pages, 2, entry, sizeof entry) != QMTD_BAD_ENTRY ||
+        !same(entry, second_page, sizeof entry))
+        return 41;
+    return 0;
+}
+
 int run(void);
 
 int run(void)
@@ -279,6 +306,6 @@ int run(void)
         return 13;
     if (decode_outer(K) != QMTD_OK || !decoded_outer() || decode_outer(1) != QMTD_BAD_BLOCK || !decoded_outer())
         return 14;
-    const int bits = run_bits(), u16 = bits != 0 ? bits : run_u16();
-    return u16 != 0 ? u16 : run_u32();
+    const int bits = run_bits(), u16 = bits != 0 ? bits : run_u16(), u32 = u16 != 0 ? u16 : run_u32();
+    return u32 != 0 ? u32 : run_files();
 }

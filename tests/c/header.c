@@ -2,6 +2,8 @@
  * and their macros are constants that initialise a table. */
 #include "qmtd_wide.h"
 #include "qmtd_wide.h"
+#include "qmtd_file.h"
+#include "qmtd_file.h"
 #include "qmtd_bits.h"
 #include "qmtd_bits.h"
 #include "qmtd.h"
@@ -23,6 +25,8 @@ typedef uint32_t decode_outer_call(uint32_t, uint32_t, uint32_t, READ, uint32_t,
 typedef uint32_t open_call(uint32_t, uint32_t, uint32_t, READ, READ, LENT, LENT, LENT);
 typedef uint32_t pass_call(uint32_t, uint32_t, uint32_t, READ, uint32_t, LENT, LENT, LENT, LENT);
 typedef uint32_t explain_call(uint32_t, uint32_t, uint32_t, READ, uint32_t, uint32_t, READ, READ, READ, LENT);
+typedef uint32_t file_read_call(READ, uint32_t, LENT);
+typedef uint32_t file_write_call(READ, READ, READ, READ, LENT, LENT);
 typedef uint32_t number_reader(const uint8_t *);
 typedef int32_t margin_reader(const uint8_t *, uint64_t);
 
@@ -75,6 +79,8 @@ extern const struct calls {
     u16_writer *put_u16_symbol;
     u32_reader *u32_symbol;
     u32_writer *put_u32_symbol;
+    file_read_call *file_read;
+    file_write_call *file_write;
 } calls;
 
 const struct calls calls = {qmtd_version, qmtd_check_table, qmtd_encode, qmtd_syndrome, qmtd_decode,
@@ -86,7 +92,8 @@ const struct calls calls = {qmtd_version, qmtd_check_table, qmtd_encode, qmtd_sy
                              qmtd_u16_pass, qmtd_u16_explain},
                             {qmtd_u32_check_table, qmtd_u32_encode, qmtd_u32_syndrome, qmtd_u32_decode, qmtd_u32_open,
                              qmtd_u32_pass, qmtd_u32_explain},
-                            qmtd_u16_symbol, qmtd_u16_put_symbol, qmtd_u32_symbol, qmtd_u32_put_symbol};
+                            qmtd_u16_symbol, qmtd_u16_put_symbol, qmtd_u32_symbol, qmtd_u32_put_symbol,
+                            qmtd_file_read, qmtd_file_write};
 
 extern const uint8_t table[QMTD_TABLE_LEN(2, 2)];
 const uint8_t table[QMTD_TABLE_LEN(2, 2)] = {QMTD_POSITION(0), QMTD_POSITION(260),
@@ -94,3 +101,7 @@ const uint8_t table[QMTD_TABLE_LEN(2, 2)] = {QMTD_POSITION(0), QMTD_POSITION(260
 
 extern uint8_t page[QMTD_WIDE_PAGE_LEN(QMTD_U16_WIDTH, 13, 2)], stack[QMTD_WIDE_STACK(QMTD_U32_WIDTH, 13 + 1, 1 + 1)];
 uint8_t page[QMTD_WIDE_PAGE_LEN(QMTD_U16_WIDTH, 13, 2)], stack[QMTD_WIDE_STACK(QMTD_U32_WIDTH, 13 + 1, 1 + 1)];
+
+extern const uint8_t numbers[4], lengths[QMTD_FILE_LENGTH_LEN];
+const uint8_t numbers[4] = {QMTD_FILE_NUMBER(300), QMTD_FILE_NUMBER(65535)};
+const uint8_t lengths[QMTD_FILE_LENGTH_LEN] = {QMTD_FILE_LENGTH(QMTD_FILE_MAX_PAGE)};

@@ -6,6 +6,8 @@
 #include "qmtd_bits.h"
 #include "qmtd_wide.h"
 #include "qmtd_wide.h"
+#include "qmtd_file.h"
+#include "qmtd_file.h"
 
 int main()
 {
@@ -15,6 +17,8 @@ int main()
     static const uint8_t numbers[] = {255, 255, 255, 255, 1, 2, 3, 4};
     static const uint8_t margins[] = {33, 0, 0, 0, 223, 255, 255, 255, 255, 255, 255, 255, 0, 0, 0, 0};
     uint8_t symbols[QMTD_WIDE_DATA_LEN(QMTD_U32_WIDTH, 2, 1)] = {0};
+    static const uint8_t lists[] = {QMTD_FILE_NUMBER(300), QMTD_FILE_LENGTH(8192), QMTD_FILE_LENGTH(0x04030201)};
+    uint8_t entry[QMTD_FILE_ENTRY_LEN] = {0};
     qmtd_u32_put_symbol(symbols, 1, 0xFFFEFDFC);
     qmtd_u16_put_symbol(symbols, 1, 0x0201);
     const bool right = qmtd_version() == QMTD_VERSION_NUMBER &&
@@ -25,6 +29,9 @@ int main()
                        sizeof symbols == 8 && symbols[2] == 1 && symbols[3] == 2 && symbols[4] == 0xFC &&
                        qmtd_u16_symbol(symbols, 3) == 0xFFFE && qmtd_u32_symbol(symbols, 0) == 0x02010000 &&
                        qmtd_u32_symbol(symbols, 1) == 0xFFFEFDFC &&
+                       qmtd_file_read(table, sizeof table, 0, entry, sizeof entry) == QMTD_BAD_CONTENTS &&
+                       sizeof lists == 10 && lists[0] == 44 && lists[1] == 1 && qmtd_number(lists + 2) == 8192 &&
+                       qmtd_number(lists + 6) == 0x04030201 && QMTD_FILE_LEN(2, 5) == 29 &&
                        sizeof positions == 8 && positions[0] == 255 && positions[1] == 0 &&
                        positions[2] == 0 && positions[3] == 1 && positions[4] == 4 && positions[5] == 1 &&
                        positions[6] == 255 && positions[7] == 15 &&

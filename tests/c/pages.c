@@ -8,12 +8,13 @@
 #include "qmtd.h"
 #include "qmtd_bits.h"
 #include "qmtd_wide.h"
+#include "qmtd_file.h"
 
 #include <stdio.h>
 #include <stdlib.h>
 #include <string.h>
 
-enum { MAX_RECORD = 102400, MAX_NUMBERS = 8, MAX_PIECES = 10, GUARD_LEN = 64, GUARD = 0xC3 };
+enum { MAX_RECORD = 204800, MAX_NUMBERS = 8, MAX_PIECES = 10, GUARD_LEN = 64, GUARD = 0xC3 };
 enum { GIVES_BEFORE = 1, GIVES_AFTER = 2 };
 
 /* One piece of lent memory: what it holds before the call and must hold after it, null where the page does not say. */
@@ -161,6 +162,17 @@ WIDE_CALLS(u32)
     {#width "_pass", 3, {"table", "result", "syndrome", "difference", "changes"}, width##_pass},                       \
     {#width "_explain", 4, {"table", "result", "syndrome", "difference", "answer"}, width##_explain}
 
+static uint32_t file_read(const uint32_t *n, const struct piece *p)
+{
+    return qmtd_file_read(LENT(p[0]), n[0], LENT(p[1]));
+}
+
+static uint32_t file_write(const uint32_t *n, const struct piece *p)
+{
+    (void)n;
+    return qmtd_file_write(LENT(p[0]), LENT(p[1]), LENT(p[2]), LENT(p[3]), LENT(p[4]), LENT(p[5]));
+}
+
 /* The calls by their number in the file: name, how many numbers each takes, the names of its pieces, the call itself.
  * Number 0 is no call: it opens a group, whose name is the piece. */
 static const struct call {
@@ -192,6 +204,8 @@ static const struct call {
     {"bits_explain", 5, {"table", "result", "syndrome", "difference", "answer"}, bits_explain},
     WIDE_ENTRIES(u16),
     WIDE_ENTRIES(u32),
+    {"file_read", 1, {"file", "entry"}, file_read},
+    {"file_write", 0, {"numbers", "tops", "lengths", "bodies", "output", "length"}, file_write},
 };
 enum { OPEN_GROUP = 0, DECODE = 4, DECODE_COUNTERS = 8, CALLS = sizeof calls / sizeof calls[0] };
 
@@ -244,7 +258,7 @@ static int take_record(FILE *file, size_t len, struct record *record)
         return 0;
     struct reader reader = {bytes, len, 0};
     uint32_t call = take_number(&reader);
-    if (reader.bad || call >= CALLS)
+    if (reader.bad || call >= CALLS || calls[call].name == NULL)
         return 0;
     *record = (struct record){.call = &calls[call], .number = take_number(&reader)};
     while (record->call->pieces[record->piece_count] != NULL)

@@ -1,16 +1,17 @@
-/* stack.c - the stack that the calls use, against what the headers tell a caller to allow: 9 KiB, and QMTD_WIDE_STACK
- * for symbols of two bytes and of four. Each call runs on a stack of its own, filled with a pattern before; what no
- * longer holds the pattern was used. */
+/* stack.c - the stack that the calls use, against what the headers tell a caller to allow: 9 KiB, QMTD_WIDE_STACK for
+ * symbols of two bytes and of four, and 1 KiB for the calls on files. Each call runs on a stack of its own, filled with a
+ * pattern before; what no longer holds the pattern was used. */
 #define _DEFAULT_SOURCE
 #include "qmtd.h"
 #include "qmtd_bits.h"
 #include "qmtd_wide.h"
+#include "qmtd_file.h"
 
 #include <stdio.h>
 #include <string.h>
 
 enum { K = QMTD_MAX_K, N = QMTD_MAX_DATA, PAIRS_K = N / QMTD_MAX_B, BLOCK = 16 };
-enum { STACK = 131072, FILL = 0xA7, ALLOWED = 9216 };
+enum { STACK = 131072, FILL = 0xA7, ALLOWED = 9216, ALLOWED_FILE = 1024 };
 
 /* One branch: a Golomb ruler of 10 marks. Eight branches: two positions each. */
 static const uint8_t ruler[] = {0, 0, 1, 0, 6, 0, 10, 0, 23, 0, 26, 0, 34, 0, 41, 0, 53, 0, 55, 0};
@@ -177,6 +178,22 @@ static void bits_explain(void)
 WIDE_CALLS(u16, QMTD_U16_WIDTH)
 WIDE_CALLS(u32, QMTD_U32_WIDTH)
 
+/* A file of 64 pages of 1,000 symbols, all 0, written and then read. */
+enum { FILE_PAGES = QMTD_FILE_MAX_PAGES, FILE_BODIES = FILE_PAGES * 1000 };
+static uint8_t numbers[2 * FILE_PAGES], tops[FILE_PAGES], lengths[4 * FILE_PAGES], bodies[FILE_BODIES];
+static uint8_t file[QMTD_FILE_LEN(FILE_PAGES, FILE_BODIES)], length[QMTD_FILE_LENGTH_LEN], entry[QMTD_FILE_ENTRY_LEN];
+
+static void file_write(void)
+{
+    number = qmtd_file_write(numbers, sizeof numbers, tops, sizeof tops, lengths, sizeof lengths, bodies, sizeof bodies,
+                             file, sizeof file, length, sizeof length);
+}
+
+static void file_read(void)
+{
+    number = qmtd_file_read(file, sizeof file, FILE_PAGES - 1, entry, sizeof entry);
+}
+
 static void idle(void)
 {
     number = QMTD_OK;
@@ -285,5 +302,16 @@ int main(void)
                 page[at] = (uint8_t)((page[at] + 1) % q);
         }
     wrong |= !wide_fits(around);
+    for (size_t i = 0; i < FILE_PAGES; i++) {
+        numbers[2 * i] = (uint8_t)i;
+        tops[i] = 2;
+        lengths[4 * i] = 1000 % 256;
+        lengths[4 * i + 1] = 1000 / 256;
+    }
+    for (int i = 0; i < 2; i++) {
+        size_t used = used_by(i == 0 ? file_write : file_read) - around;
+        printf("%-23s %lu bytes of stack\n", i == 0 ? "file_write" : "file_read", (unsigned long)used);
+        wrong |= number != QMTD_OK || used > ALLOWED_FILE;
+    }
     return wrong;
 }
