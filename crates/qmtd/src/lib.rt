@@ -10,9 +10,9 @@ ghost use Rattle.model.specs.Demand.{Encodes, DecodeFalls, DecodeRecovers, Pass
 // The version: major times 10,000 plus minor times 100 plus patch.
 #[no_mangle]
 pub extern "C" fn qmtd_version() -> u32
-    ensures { λ r. ⌜ r ≡ 1100 ⌝ }
+    ensures { λ r. ⌜ r ≡ 1200 ⌝ }
 {
-    1100
+    1200
 }
 
 // Checks a code table.
