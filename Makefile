@@ -122,7 +122,7 @@ bench: lib
 	TARGET=$(TARGET) bench/run --wide
 	@if command -v valgrind >/dev/null; then \
 	   TARGET=$(TARGET) bench/count && TARGET=$(TARGET) bench/count --outer && TARGET=$(TARGET) bench/count --bits && \
-	   TARGET=$(TARGET) bench/count --wide; \
+	   TARGET=$(TARGET) bench/count --wide && bench/count --files; \
 	 else echo "no valgrind: instructions not counted"; fi
 
 votes: build/votes/libvotes.a
