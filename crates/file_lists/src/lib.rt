@@ -46,7 +46,7 @@ fn sums_to(sizes: &[u32], n: usize) -> bool
 
 // Whether the entries that the lists give keep the rules.
 fn lists_fit(numbers: &[u16], tops: &[u8], sizes: &[u32], end: usize) -> bool
-    requires { ⌜ (length (now tops) ≡ length (now numbers)) × (length (now sizes) ≡ length (now numbers)) × (length (now numbers) ≤ 64) × (end ≤ 65536) ⌝ }
+    requires { ⌜ (length (now tops) ≡ length (now numbers)) × (length (now sizes) ≡ length (now numbers)) × (length (now numbers) ≤ 64) × (end < 4294967296) ⌝ }
     ensures { λ r. ⌜ r ≡ entriesFit 0 (contentsEnd (length (now (numbers .entry)))) end
         (listedFrom (contentsEnd (length (now (numbers .entry)))) (now (numbers .entry)) (now (tops .entry)) (now (sizes .entry))) ⌝ }
 {

@@ -1,7 +1,7 @@
 -- `lists_fit`: the entries from place i on fit where all do.
 use mathlib.Core.Path.{_≡_, ap, sym, _∙_}
 use mathlib.Core.Bool.{true}
-use Prim.Native.Nat.{ℕ, _≤_, _-_}
+use Prim.Native.Nat.{ℕ, _<_, _≤_, _-_}
 use native.Mathlib.Omega.{arith}
 use borrow.Author.Tests.{not-true, not-false}
 use lib.ListN.{length, drop}
@@ -14,7 +14,7 @@ use Rattle.file_lists.proofs.lists_fit.Tie as tie
 
 abbrev Inv-loop : tie.InvT-loop
 Inv-loop numbers tops sizes end least₀ start₀ i₀ least start i =
-    (i ≤ length numbers) × (start ≤ 65536) × (entriesFit least start end (listedFrom start (drop i numbers) (drop i tops) (drop i sizes))
+    (i ≤ length numbers) × (start < 4294967296) × (entriesFit least start end (listedFrom start (drop i numbers) (drop i tops) (drop i sizes))
     ≡ entriesFit 0 (contentsEnd (length numbers)) end (listedFrom (contentsEnd (length numbers)) numbers tops sizes))
 
 abbrev μ-loop : tie.MeasureT-loop

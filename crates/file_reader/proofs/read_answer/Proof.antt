@@ -95,7 +95,7 @@ returns-8 c =
     let w : Whole f = record { short = omega arith; some = omega arith; few = omega arith; whole = omega arith } in
     let e : at3 .bodies-end .result ≡ fileEnd f = at3 .bodies-end .ensures ∙ end-known f _ n in
     let z : fileEnd f ≡ 0 → ⊥ = λ q. at2 .if6 .left (e ∙ q) in
-    sym (answer-15-end f (a .place) w z (omega arith) (λ q. c .if8 .taken (e ∙ q)))
+    sym (answer-15-end f (a .place) w z (omega arith) (λ (q : fileEnd f ≡ length f). omega arith))
 
 symbols-fit-requires : tie.Need-symbols-fit-requires
 unfolding countOf entriesOf
@@ -109,7 +109,6 @@ symbols-fit-requires c κs =
     let w : Whole f = record { short = omega arith; some = omega arith; few = omega arith; whole = omega arith } in
     let e : at3 .bodies-end .result ≡ fileEnd f = at3 .bodies-end .ensures ∙ end-known f _ n in
     let z : fileEnd f ≡ 0 → ⊥ = λ q. at2 .if6 .left (e ∙ q) in
-    let g : fileEnd f ≡ length f = sym e ∙ c .if8 .left in
     let t = end-some f z .1 in
     let same : total (sizesOf (entriesFrom f 0 (two .two-at .result))) ≡ total (sizesOf (entriesOf f)) = ap (λ (k : ℕ). total (sizesOf (entriesFrom f 0 k))) n in
     (omega arith, omega arith)
@@ -127,7 +126,7 @@ returns-9 c =
     let w : Whole f = record { short = omega arith; some = omega arith; few = omega arith; whole = omega arith } in
     let e : at5 .bodies-end .result ≡ fileEnd f = at5 .bodies-end .ensures ∙ end-known f _ n in
     let z : fileEnd f ≡ 0 → ⊥ = λ q. at4 .if6 .left (e ∙ q) in
-    let g : fileEnd f ≡ length f = sym e ∙ at2 .if8 .left in
+    let g : fileEnd f ≡ length f = omega arith in
     let y : c .before .symbols-fit .result ≡ symbolsFit (entriesOf f) (bodiesIn f) = c .before .symbols-fit .ensures ∙ symbols-known f _ n in
     sym (answer-15-symbols f (a .place) w z (omega arith) g (sym y ∙ not-true _ (c .if9 .taken)))
 
@@ -144,7 +143,7 @@ returns-10 c =
     let w : Whole f = record { short = omega arith; some = omega arith; few = omega arith; whole = omega arith } in
     let e : at5 .bodies-end .result ≡ fileEnd f = at5 .bodies-end .ensures ∙ end-known f _ n in
     let z : fileEnd f ≡ 0 → ⊥ = λ q. at4 .if6 .left (e ∙ q) in
-    let g : fileEnd f ≡ length f = sym e ∙ at2 .if8 .left in
+    let g : fileEnd f ≡ length f = omega arith in
     let y : c .before .symbols-fit .result ≡ symbolsFit (entriesOf f) (bodiesIn f) = c .before .symbols-fit .ensures ∙ symbols-known f _ n in
     sym (answer-0 f (a .place) w z (omega arith) g (sym y ∙ not-false _ (c .if9 .left)))
 
