@@ -69,7 +69,7 @@ build/modules/made: $(SOURCES) targets/module targets/exports
 	@echo $(EXPORTS) | RT=$(RT) xargs -n 1 -P "$$(nproc)" sh -c 'targets/module "$$1" build/modules' module
 	@touch $@
 
-# The export crates and those that they build on, each after those it depends on; the first time this takes some minutes.
+# The export crates and those that they build on, each after those it depends on; the first time this takes half an hour or more.
 prove:
 	@mkdir -p build
 	@set -- $$(awk -F: '{ sub(/#.*/, "") } NF { gsub(/ /, "", $$1); deps[$$1] = $$2 } \
@@ -122,7 +122,7 @@ bench: lib
 	TARGET=$(TARGET) bench/run --wide
 	@if command -v valgrind >/dev/null; then \
 	   TARGET=$(TARGET) bench/count && TARGET=$(TARGET) bench/count --outer && TARGET=$(TARGET) bench/count --bits && \
-	   TARGET=$(TARGET) bench/count --wide && bench/count --files; \
+	   TARGET=$(TARGET) bench/count --wide && TARGET=$(TARGET) bench/count --files; \
 	 else echo "no valgrind: instructions not counted"; fi
 
 votes: build/votes/libvotes.a
