@@ -1,4 +1,5 @@
 // Runs the 14 worked cases of document 01 and prints what the calls give. Each line starts with the number of its case.
+#![tactic(auto)]
 use decoder::Decoded;
 
 // Code A: k = 13 with these positions.

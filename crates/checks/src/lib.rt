@@ -1,5 +1,6 @@
 // A data symbol's place and its checks: which they are, the estimates that the syndrome gives there, and a subtraction at them.
 // A data symbol is symbol j of a branch, whose run of positions is lent, or a number among all data symbols.
+#![tactic(auto)]
 ghost use Rattle.std.specs.Prelude.{◌≡◌, ◌+◌, ◌-◌, ◌%◌, ◌<◌, ◌≤◌, length, get_or};
 ghost use Rattle.model.specs.Code.{data_count, checks_each, checks_by};
 ghost use Rattle.model.specs.Symbols.{Below, subtract_at};

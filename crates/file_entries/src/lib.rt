@@ -1,4 +1,5 @@
 // The entries of a file's contents: read from bytes, tested, and written as bytes, low byte first.
+#![tactic(auto)]
 ghost use Rattle.std.specs.Prelude.{◌≡◌, ◌+◌, ◌*◌, ◌<◌, ◌≤◌, length};
 ghost use Rattle.std.proofs.lemmas.List.Edits.{sets};
 ghost use Rattle.model.specs.Bytes.{bytes_in};

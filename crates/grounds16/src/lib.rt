@@ -1,4 +1,5 @@
 // Why a data symbol of two bytes is left or would be changed.
+#![tactic(auto)]
 ghost use Rattle.std.specs.Prelude.{◌≡◌, ◌<◌, length, get_or};
 ghost use Rattle.model.specs.Code.{data_count};
 ghost use Rattle.checks.specs.Checks.{AtChecks, estimates_by};

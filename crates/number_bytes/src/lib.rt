@@ -1,5 +1,6 @@
 // Numbers that the C calls hand back as bytes, four for each, low byte first: the counts of a decode, the changes of a pass, the answer
 // of explain.
+#![tactic(auto)]
 ghost use Rattle.std.specs.Prelude.{◌≡◌, ◌+◌, ◌≤◌, length};
 ghost use Rattle.std.proofs.lemmas.List.Edits.{sets};
 ghost use Rattle.model.specs.Bytes.{word_of, bytes_of, explained_bytes};

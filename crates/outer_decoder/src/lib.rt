@@ -1,4 +1,5 @@
 // The call decode_outer.
+#![tactic(auto)]
 ghost use Rattle.std.specs.Prelude.{◌≡◌};
 ghost use Rattle.model.specs.Code.{code_of};
 ghost use Rattle.model.specs.Decoder.{state_by};

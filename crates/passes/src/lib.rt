@@ -1,4 +1,5 @@
 // The run of passes over the data symbols.
+#![tactic(auto)]
 ghost use Rattle.std.specs.Prelude.{◌≡◌, true, ◌≤◌, length};
 ghost use Rattle.model.specs.Code.{data_count};
 ghost use Rattle.model.specs.Decoder.{state_by};

@@ -1,5 +1,6 @@
 // Runs the reference pages in data/pages.bin through the Rattle calls on bit pages, check_table, encode, syndrome, decode, open, pass and
 // explain, and prints for each group how many there are and how many came out wrong.
+#![tactic(auto)]
 use bits::Explained;
 use records::{Buffers, Code, Piece, number_at, returned};
 use runs::{MOST_RECORD, Run};

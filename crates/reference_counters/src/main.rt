@@ -1,5 +1,6 @@
 // Runs the reference pages in data/pages.bin through the Rattle call decode_counters, and prints for each group how many there are and how many
 // came out wrong.
+#![tactic(auto)]
 use records::{Buffers, Code, Piece, returned};
 use runs::{MOST_RECORD, Run};
 use tally::Tally;

@@ -1,5 +1,6 @@
 // Runs the reference pages in data/pages.bin through the Rattle calls on files of pages, find, part, body and write, and prints for each group
 // how many there are and how many came out wrong.
+#![tactic(auto)]
 ghost use Rattle.std.specs.Prelude.{◌≡◌, ◌≤◌, length};
 
 use file_reader::Found;

@@ -1,5 +1,6 @@
 // Runs the reference pages in data/pages.bin through the Rattle calls on symbols of four bytes, check_table, encode, syndrome, decode, open,
 // pass and explain, and prints for each group how many there are and how many came out wrong.
+#![tactic(auto)]
 ghost use Rattle.std.specs.Prelude.{◌≤◌};
 
 use explainer32::Explained;

@@ -1,5 +1,6 @@
 // The run of a file of reference pages: it reads the records, tells a group from a page, counts, and prints a line for each group.
 // tests/reference/README.md has the format.
+#![tactic(auto)]
 use records::{Piece, number_at};
 
 // The most bytes of a record.

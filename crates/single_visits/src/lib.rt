@@ -1,4 +1,5 @@
 // A visit to one data symbol by its number, without kept zeros.
+#![tactic(auto)]
 ghost use Rattle.std.specs.Prelude.{◌≡◌, ◌<◌};
 ghost use Rattle.model.specs.Code.{data_count};
 ghost use Rattle.model.specs.Decoder.{state_by};

@@ -1,4 +1,5 @@
 // Symbols modulo q: compared, added and subtracted, one by one.
+#![tactic(auto)]
 ghost use Rattle.std.specs.Prelude.{◌≡◌, ◌+◌, ◌%◌, ◌<◌, ◌≤◌};
 ghost use Rattle.model.specs.Symbols.{add, sub, same};
 

@@ -1,4 +1,6 @@
 // The tally of a decode: its four counts as a value, whose methods take it and return the next; and what decode hands back.
+#![tactic(auto)]
+
 ghost use Rattle.std.specs.Prelude.{◌≡◌, ◌+◌, ◌<◌, ◌≤◌};
 
 // The four counts of a decode.

@@ -1,4 +1,6 @@
 // The vote over estimates.
+#![tactic(auto)]
+
 ghost use Rattle.std.specs.Prelude.{◌≡◌, ◌&&◌, ◌||◌, ◌<◌, ◌≤◌, max, eqb, ltb, length};
 ghost use Rattle.model.specs.Symbols.{choose, count};
 ghost use Rattle.model.specs.Vote.{goes_before, leader, other_count};

@@ -1,1 +1,2 @@
 // Specs only: what the decoders of wide symbols share.
+#![tactic(auto)]

@@ -1,1 +1,2 @@
 // Specs only: what the calls on wide symbols share.
+#![tactic(auto)]
