@@ -132,7 +132,7 @@ pub fn explain(
 ) -> Explained
     ensures { record {
       number = result.number;
-      left = record { ground = result.ground; leader = result.leader; lead = result.lead; next = result.next; bits = result.bits };
+      left = record { ground_number = result.ground; leader = result.leader; lead = result.lead; next = result.next; bits = result.bits };
     } ≡ explain_outcome (code_in bit_pages q k b positions.now) true threshold symbol
         (state_by res.now syndrome.now difference.now) }
 {

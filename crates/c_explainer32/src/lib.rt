@@ -44,7 +44,7 @@ fn explain_with(
     );
     number_bytes::put_answer(
         answer,
-        told.ground,
+        told.ground_number,
         told.leader,
         told.lead,
         told.next,

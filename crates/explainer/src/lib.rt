@@ -33,7 +33,7 @@ pub fn explain_with(
     requires { (code.k ≤ 4294967295) × (code.b ≤ 4294967295) }
     ensures { record {
       number = result.number;
-      left = record { ground = result.ground; leader = result.leader; lead = result.lead; next = result.next; bits = result.bits };
+      left = record { ground_number = result.ground; leader = result.leader; lead = result.lead; next = result.next; bits = result.bits };
     } ≡ explain_outcome (code_by code positions.now) others threshold symbol
         (state_by res.now syndrome.now difference.now) }
 {
@@ -69,7 +69,7 @@ pub fn explain_with(
     );
     Explained {
         number: 0,
-        ground: told.ground,
+        ground: told.ground_number,
         leader: told.leader,
         lead: told.lead,
         next: told.next,
@@ -91,7 +91,7 @@ pub fn explain(
 ) -> Explained
     ensures { record {
       number = result.number;
-      left = record { ground = result.ground; leader = result.leader; lead = result.lead; next = result.next; bits = result.bits };
+      left = record { ground_number = result.ground; leader = result.leader; lead = result.lead; next = result.next; bits = result.bits };
     } ≡ explain_outcome (code_of q k b positions.now) true threshold symbol
         (state_by res.now syndrome.now difference.now) }
 {

@@ -21,7 +21,7 @@ pub fn explain(
 ) -> Explained
     ensures { record {
       number = result.number;
-      left = record { ground = result.ground; leader = result.leader; lead = result.lead; next = result.next; bits = result.bits };
+      left = record { ground_number = result.ground; leader = result.leader; lead = result.lead; next = result.next; bits = result.bits };
     } ≡ explain_outcome (wide_code wide16 k b positions.now) true threshold symbol
         (state_by res.now syndrome.now difference.now) }
 {
@@ -54,7 +54,7 @@ pub fn explain(
     );
     Explained {
         number: 0,
-        ground: told.ground,
+        ground: told.ground_number,
         leader: told.leader,
         lead: told.lead,
         next: told.next,

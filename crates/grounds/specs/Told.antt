@@ -2,12 +2,12 @@
 use Rattle.std.specs.Prelude.{◌≡◌, List, ◌∷◌, ℕ, suc, ◌+◌, ◌*◌, ◌<◌, ◌≤◌, length, get_or, drop}
 use Rattle.std.proofs.Common.{ap, sym, ◌∙◌, arith, drop_of_length-le, length-drop, drop-cons}
 use Rattle.model.specs.Symbols.{same}
-use Rattle.model.specs.Vote.{leader, lead_count, next_count, ground, equal_bits}
+use Rattle.model.specs.Vote.{leader, lead_count, next_count, ground_of, equal_bits}
 use Rattle.theory.specs.Explaining.{bits_cons, bits_nil, bits_small}
 use Rattle.grounds.specs.declared.Told.{Told}
 
 abbrev pub told_of : ℕ → List ℕ → Told
-told_of t es = record { ground = ground t es; leader = leader es; lead = lead_count es; next = next_count es; bits = equal_bits es (leader es) }
+told_of t es = record { ground_number = ground_of t es; leader = leader es; lead = lead_count es; next = next_count es; bits = equal_bits es (leader es) }
 
 -- ---- the bits of the estimates from place i on
 

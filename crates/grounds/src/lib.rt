@@ -16,7 +16,7 @@ use vote::Vote;
 // What explain tells of a data symbol.
 #[derive(Drop)]
 pub struct Told {
-    pub ground: u32,
+    pub ground_number: u32,
     pub leader: u32,
     pub lead: u32,
     pub next: u32,
@@ -55,7 +55,7 @@ fn ground_of(threshold: u32, v: Vote) -> u32
 fn told_by(threshold: u32, v: Vote, bits: u64) -> Told
     requires { v.next ≤ v.lead }
     ensures { result ≡ record {
-      ground = choose (ltb threshold (v.lead - v.next)) (choose (eqb v.leader 0) 2 3) 1;
+      ground_number = choose (ltb threshold (v.lead - v.next)) (choose (eqb v.leader 0) 2 3) 1;
       leader = v.leader;
       lead = v.lead;
       next = v.next;
@@ -63,7 +63,7 @@ fn told_by(threshold: u32, v: Vote, bits: u64) -> Told
     } }
 {
     Told {
-        ground: ground_of(threshold, v),
+        ground_number: ground_of(threshold, v),
         leader: v.leader as u32,
         lead: v.lead as u32,
         next: v.next as u32,

@@ -66,7 +66,7 @@ c_pass_outcome c threshold lent changes =
 -- "answer 24 bytes": ground, h0, m0, m1, four bytes each, then the bits, eight bytes (N6)
 unfoldable pub explained_bytes : Explained → List ℕ
 explained_bytes e =
-    word_of e.ground ++ word_of e.leader ++ word_of e.lead ++ word_of e.next ++ word_of (e.bits % 4294967296) ++ word_of (e.bits / 4294967296)
+    word_of e.ground_number ++ word_of e.leader ++ word_of e.lead ++ word_of e.next ++ word_of (e.bits % 4294967296) ++ word_of (e.bits / 4294967296)
 
 -- the C form of explain writes its answer into 24 lent bytes
 unfoldable pub c_explain_outcome : Code → ℕ → ℕ → State → List ℕ → Outcome (List ℕ)

@@ -2,7 +2,7 @@
 use Rattle.std.specs.Prelude.{Bool, true, not, ◌&&◌, List, [], ◌∷◌, ◌++◌, ℕ, suc, ◌+◌, ◌*◌, ◌%◌, eqb, ltb, leb, ℤ, length}
 use Rattle.model.specs.Symbols.{choose}
 use Rattle.model.specs.Code.{Code, lowest, highest, data_count, check_count, page_length, checks_each, checks_of, branch_at, code_word, syndrome, every_below, self_orthogonal}
-use Rattle.model.specs.Vote.{leader, lead_count, next_count, ground, equal_bits}
+use Rattle.model.specs.Vote.{leader, lead_count, next_count, ground_of, equal_bits}
 use Rattle.model.specs.Outer.{outer_word, outer_state, outer_counts}
 use Rattle.model.specs.Decoder.{State, Visit, estimates, after, change_count, pass, passes, data_symbols, opened, Counts, decoded_state, decoded_counts, margins_of}
 
@@ -267,7 +267,7 @@ call_run c ps st = passes (data_symbols c) (not_refused c ps st)
 
 -- the ground, h0, m0 and m1, and the bits of the estimates that equal h0
 pub record Explained : Type 0 where
-  pub ground : ℕ
+  pub ground_number : ℕ
   pub leader : ℕ
   pub lead : ℕ
   pub next : ℕ
@@ -278,11 +278,11 @@ pub record Explained : Type 0 where
 unfoldable pub explained : Code → ℕ → ℕ → State → Explained
 explained c threshold j st =
     let es = estimates (checks_of c j) j st in
-    record { ground = ground threshold es; leader = leader es; lead = lead_count es; next = next_count es; bits = equal_bits es (leader es) }
+    record { ground_number = ground_of threshold es; leader = leader es; lead = lead_count es; next = next_count es; bits = equal_bits es (leader es) }
 
 -- refused, the Rattle form returns zeros beside the number
 abbrev pub not_explained : Explained
-not_explained = record { ground = 0; leader = 0; lead = 0; next = 0; bits = 0 }
+not_explained = record { ground_number = 0; leader = 0; lead = 0; next = 0; bits = 0 }
 
 -- explain only reads the result, S and D ("Nothing is altered"); `others` says whether the buffers that only one form of the call lends fit
 unfoldable pub explain_outcome : Code → Bool → ℕ → ℕ → State → Outcome Explained

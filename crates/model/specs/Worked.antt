@@ -5,7 +5,7 @@ use Rattle.std.proofs.Common.{ap, subst, ◌∙◌, mod-eq_of_lt, arith}
 use Rattle.std.specs.Int.Count.{ones_in, ones}
 use Rattle.model.specs.Symbols.{sub, same, differ, count, distance, sum_over, sum_of_first, join_below, tabulate, symbols_at, subtract_at}
 use Rattle.model.specs.Code.{bit_pages, wide16, wide32, Code, code_in, code_of, wide_code, data_count, check_count, page_length, branch_at, checks_by, checks_of, check_sum_by, check_symbol, check_symbols, code_word, syndrome, shared, every_below, self_orthogonal, differences_from, differences_by, differences, all_different}
-use Rattle.model.specs.Vote.{first_by, other_by, leader, lead_count, next_count, Votes, votes, votes_by, counted, votes_read, margin, ground, equal_bits, gathered, ones_decide, bit_votes}
+use Rattle.model.specs.Vote.{first_by, other_by, leader, lead_count, next_count, Votes, votes, votes_by, counted, votes_read, margin, ground_of, equal_bits, gathered, ones_decide, bit_votes}
 use Rattle.model.specs.Decoder.{state_by, State, Counts, estimates, is_change, change, changes, visit, after, change_count, pass, passes, allows, thresholds_run, opened, passes_of, run, distance_to, decoded_state, decoded_counts, margins_of}
 use Rattle.model.specs.Outer.{part_sum, outer_word, reliability, least_below, weakest, is_step, outer_step, outer_steps, step_count, outer_state, outer_counts}
 use Rattle.model.specs.Calls.{first_that_applies, within, syndrome_answer, syndrome_outcome, positions_fit, all_below, size_tests, table_tests, page_tests, threshold_tests, threshold_test, table_answer, encode_answer, decode_answer, open_answer, pass_tests, pass_answer, explain_answer, Outcome, outcome, encode_outcome, Decoded, decode_outcome, WithCounters, counters_fit, decode_counters_outcome, block_test, encode_outer_answer, decode_outer_answer, encode_outer_outcome, decode_outer_outcome, open_outcome, Passed, pass_outcome, PassCall, fitting, after_calls, call_changes, not_refused, Explained, explained, explain_outcome}
@@ -28,7 +28,7 @@ data Row : Type 0 where
   passing : (c : Code) (others : Bool) (threshold : ℕ) (found : State) (given : Outcome (Passed ℕ)) → Row
   -- what a list of pass calls leaves, their changes, and the thresholds of those not refused
   called_in_turn : (c : Code) (calls : List PassCall) (found left : State) (changes : ℕ) (made : List ℕ) → Row
-  -- explain's number, ground, h0, m0, m1 and bits
+  -- explain's number, ground_of, h0, m0, m1 and bits
   explaining : (c : Code) (others : Bool) (threshold j : ℕ) (found : State) (given : Outcome Explained) → Row
   -- decode's number, buffers, margins and counts with these counters, and the counters afterwards
   with_counters : (c : Code) (thresholds page counters : List ℕ) (given : WithCounters (Outcome (Decoded (List ℤ) Counts))) → Row
@@ -69,7 +69,7 @@ lent_bytes c = let w = symbol_size c.profile in state_by (lent (data_count c * w
 -- the row with what the definitions give for its inputs
 computed : Row → Row
 unfolding first_that_applies within positions_fit all_below size_tests table_tests page_tests threshold_tests threshold_test table_answer encode_answer decode_answer open_answer pass_tests pass_answer explain_answer
-    outcome encode_outcome decode_outcome counters_fit decode_counters_outcome block_test encode_outer_answer decode_outer_answer encode_outer_outcome decode_outer_outcome open_outcome pass_outcome after_calls call_changes not_refused explained explain_outcome ground equal_bits
+    outcome encode_outcome decode_outcome counters_fit decode_counters_outcome block_test encode_outer_answer decode_outer_answer encode_outer_outcome decode_outer_outcome open_outcome pass_outcome after_calls call_changes not_refused explained explain_outcome ground_of equal_bits
     branch_at checks_by checks_of check_sum_by check_symbol check_symbols code_word syndrome shared every_below self_orthogonal differences_from differences_by all_different
     first_by other_by leader lead_count next_count estimates is_change change changes visit after change_count pass passes allows thresholds_run opened passes_of run distance_to decoded_state decoded_counts margin margins_of
     counted votes_by votes_read part_sum outer_word reliability least_below weakest is_step outer_step outer_steps step_count outer_state outer_counts
@@ -182,7 +182,7 @@ passed_six = state_by (zeros 13) (zeros 13) (249 ∷ zeros 12)
 
 -- what explain gives
 told : ℕ → ℕ → ℕ → ℕ → ℕ → ℕ → Outcome Explained
-told n g h m0 m1 bits = record { number = n; left = record { ground = g; leader = h; lead = m0; next = m1; bits = bits } }
+told n g h m0 m1 bits = record { number = n; left = record { ground_number = g; leader = h; lead = m0; next = m1; bits = bits } }
 
 -- a decode of code A that is refused leaves what it was lent
 refused_a : ℕ → Outcome (Decoded (List ℤ) Counts)

@@ -23,7 +23,7 @@ word_written d n h =
 
 pub answer_written : (d : List ℕ) (g h m n bits : ℕ) → length d ≡ 24
     → sets (sets (sets (sets (sets (sets d 0 (word_of g)) 4 (word_of h)) 8 (word_of m)) 12 (word_of n)) 16 (word_of (bits % 4294967296))) 20 (word_of (bits / 4294967296))
-    ≡ explained_bytes (record { ground = g; leader = h; lead = m; next = n; bits = bits })
+    ≡ explained_bytes (record { ground_number = g; leader = h; lead = m; next = n; bits = bits })
 unfolding explained_bytes
 answer_written d g h m n bits e =
     let vs : List ℕ = word_of g ++ word_of h ++ word_of m ++ word_of n ++ word_of (bits % 4294967296) ++ word_of (bits / 4294967296) in

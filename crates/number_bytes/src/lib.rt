@@ -1,6 +1,7 @@
 // Numbers that the C calls hand back as bytes, four for each, low byte first: the counts of a decode, the changes of a pass, the answer
 // of explain.
 #![tactic(auto)]
+
 ghost use Rattle.std.specs.Prelude.{◌≡◌, ◌+◌, ◌≤◌, length};
 ghost use Rattle.std.proofs.lemmas.List.Edits.{sets};
 ghost use Rattle.model.specs.Bytes.{word_of, bytes_of, explained_bytes};
@@ -38,7 +39,7 @@ pub fn put_changes(d: &mut [u8], changes: u32)
 // The 24 bytes of the answer of explain: four numbers, and the bits in two halves.
 pub fn put_answer(d: &mut [u8], ground: u32, leader: u32, lead: u32, next: u32, bits: u64)
     requires { length d.old ≡ 24 }
-    ensures { d.new ≡ explained_bytes (record { ground = ground; leader = leader; lead = lead; next = next; bits = bits }) }
+    ensures { d.new ≡ explained_bytes (record { ground_number = ground; leader = leader; lead = lead; next = next; bits = bits }) }
 {
     put_word(d, 0, ground);
     put_word(d, 4, leader);

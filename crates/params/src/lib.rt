@@ -1,5 +1,6 @@
 // The parameters of a code: its numbers, which with a table of positions make the code, and the sizes that they give.
 #![tactic(auto)]
+
 ghost use Rattle.std.specs.Prelude.{◌≡◌, ◌*◌, ◌/◌, ◌%◌, ◌≤◌};
 
 // "q is the alphabet size"; "b data branches of k symbols each, with k checks for all of them"; and whether the profile is that of bit pages.

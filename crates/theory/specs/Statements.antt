@@ -19,7 +19,7 @@ use Rattle.model.specs.Files.{count_of, read_answer, read_outcome, Listing, page
 use Rattle.model.specs.Limits.{TableLimits, Limits}
 use Rattle.model.specs.Outer.{block_sum, block_count, outer_word, reliability_of, least_below, weakest, is_step, outer_steps, step_count, outer_state, outer_counts}
 use Rattle.model.specs.Symbols.{choose, add, sub, same, count, tabulate, add_each, sub_each, Below}
-use Rattle.model.specs.Vote.{leader, lead_count, next_count, votes, votes_read, counted, margin, ground, equal_bits, gathered, zeros_in, ones_decide, bit_votes}
+use Rattle.model.specs.Vote.{leader, lead_count, next_count, votes, votes_read, counted, margin, ground_of, equal_bits, gathered, zeros_in, ones_decide, bit_votes}
 use Rattle.theory.specs.Answers.{table_accepted, table_accepts, table_usable, Opens, Taken, decode_taken, decode_opens, open_taken, pass_taken, explain_takes, explain_taken, BlockFits, encode_outer_taken, encode_symbols, encode_takes, encoded_data, decode_outer_taken}
 use Rattle.theory.specs.BitVote.{add-bits, sub_bits, turned_over, word_ones, word_zeros, vote_bits, change_bits, margin_bits, equal-bits, visit_bits, visit_zeros}
 use Rattle.theory.specs.Branches.{orthogonal_differences}
@@ -477,9 +477,9 @@ decode_split c others page ts lent e = (
 -- The ground of a data symbol at a threshold is 1 where the lead m0 − m1 is not above it, 2 where it is and the leader is 0, 3 where it is and the
 -- leader is not 0 (Ground). It is 3 if and only if a visit now is a change, and then the visit subtracts this leader; else the visit alters nothing.
 pub record GroundMeans (q : ℕ) (checks : ℕ → List ℕ) (v : Visit) (st : State) (es : List ℕ) : Type 0 where
-  pub vote : Ground v.threshold es (ground v.threshold es) (changes checks v st)
-  pub subtracts : ground v.threshold es ≡ 3 → visit q checks v st ≡ change q (checks v.symbol) v.symbol (leader es) st
-  pub leaves : ground v.threshold es ≢ 3 → visit q checks v st ≡ st
+  pub vote : Ground v.threshold es (ground_of v.threshold es) (changes checks v st)
+  pub subtracts : ground_of v.threshold es ≡ 3 → visit q checks v st ≡ change q (checks v.symbol) v.symbol (leader es) st
+  pub leaves : ground_of v.threshold es ≢ 3 → visit q checks v st ≡ st
 
 pub ground_means : (q : ℕ) (checks : ℕ → List ℕ) (v : Visit) (st : State) → GroundMeans q checks v st (estimates (checks v.symbol) v.symbol st)
 unfolding changes

@@ -239,7 +239,7 @@ pub fn tell(es: &[u32], threshold: u32) -> Told
     let v = vote_over(es);
     let bits = bits_of(es, v.leader);
     Told {
-        ground: ground_of(threshold, v),
+        ground_number: ground_of(threshold, v),
         leader: v.leader,
         lead: v.lead,
         next: v.next,

@@ -128,7 +128,7 @@ returns-2 c =
     let done = told.before in
     left_as_done _ _ _ _ (sym done.if1.false ∙ number done.before)
     (put.put-answer.ensures
-    ∙ ap (λ (t : Told). explained_bytes (record { ground = t.ground; leader = t.leader; lead = t.lead; next = t.next; bits = t.bits })) told.tell-symbol.ensures)
+    ∙ ap (λ (t : Told). explained_bytes (record { ground_number = t.ground_number; leader = t.leader; lead = t.lead; next = t.next; bits = t.bits })) told.tell-symbol.ensures)
 
 pub explain-with-spec : {M : Type 1} → statement M
 explain-with-spec =

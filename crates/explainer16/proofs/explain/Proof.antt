@@ -85,7 +85,7 @@ returns-2 c =
     let done = c.before in
     let e = c.tell-symbol.ensures in
     left_as_done _ _ _ _ (sym done.if1.false ∙ number done.before)
-    (ap (λ (t : Told). record { ground = t.ground; leader = t.leader; lead = t.lead; next = t.next; bits = t.bits }) e)
+    (ap (λ (t : Told). record { ground_number = t.ground_number; leader = t.leader; lead = t.lead; next = t.next; bits = t.bits }) e)
 
 pub explain-spec : {M : Type 1} → statement M
 explain-spec =

@@ -7,7 +7,7 @@ use native.Mathlib.Omega.{arith}
 use lib.Dec.{eqb}
 use lib.ListN.{length}
 use Rattle.model.specs.Symbols.{choose}
-use Rattle.model.specs.Vote.{ground, equal_bits}
+use Rattle.model.specs.Vote.{ground_of, equal_bits}
 use Rattle.theory.specs.Voting.{next_le_lead}
 use Rattle.vote.specs.Leading.{vote_of}
 use Rattle.vote.specs.declared.Vote.{Vote}
@@ -46,7 +46,7 @@ told-by-requires : tie.Need-told-by-requires
 told-by-requires c κs = ordered _ _ (vote c.before)
 
 returns : tie.Need-returns
-unfolding ground
+unfolding ground_of
 returns c =
     let b = c.before in
     let v = b.before in
@@ -66,7 +66,7 @@ told-by-requires-2 : tie.Need-told-by-requires-2
 told-by-requires-2 c κs = ordered _ _ c.before.vote-over.ensures
 
 returns-2 : tie.Need-returns-2
-unfolding ground
+unfolding ground_of
 returns-2 c =
     let b = c.before in
     let v = b.before in

@@ -2,7 +2,7 @@
 use borrow.Author.Rules.{rules}
 use mathlib.Core.Path.{◌∙◌, ap, refl}
 use native.Mathlib.Omega.{arith}
-use Rattle.model.specs.Vote.{ground, equal_bits}
+use Rattle.model.specs.Vote.{ground_of, equal_bits}
 use Rattle.theory.specs.Voting.{next_le_lead}
 use Rattle.wide_vote.specs.declared.Vote.{Vote}
 use Rattle.wide_vote.proofs.tell.Statement.{statement}
@@ -21,7 +21,7 @@ ground-of-requires c κs =
     omega (arith, ap (λ (x : Vote). x.lead) e, ap (λ (x : Vote). x.next) e, next_le_lead v.before.before.args.es.now)
 
 returns : tie.Need-returns
-unfolding ground
+unfolding ground_of
 returns c =
     let b = c.before in
     let v = b.before in
