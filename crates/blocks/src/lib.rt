@@ -1,5 +1,6 @@
 // Blocks of data symbols in a row: whether they make up the data, what one sums to, and the next that does not sum to 0.
 #![tactic(auto)]
+
 ghost use Rattle.std.specs.Prelude.{◌≡◌, ◌-◌, ◌*◌, ◌%◌, ◌<◌, ◌≤◌, eqb, leb, length, get_or};
 ghost use Rattle.model.specs.Symbols.{choose, Below, sum_of_first};
 ghost use Rattle.theory.specs.InBlocks.{length_of};

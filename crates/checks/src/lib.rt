@@ -1,6 +1,7 @@
 // A data symbol's place and its checks: which they are, the estimates that the syndrome gives there, and a subtraction at them.
 // A data symbol is symbol j of a branch, whose run of positions is lent, or a number among all data symbols.
 #![tactic(auto)]
+
 ghost use Rattle.std.specs.Prelude.{◌≡◌, ◌+◌, ◌-◌, ◌%◌, ◌<◌, ◌≤◌, length, get_or};
 ghost use Rattle.model.specs.Code.{data_count, checks_each, checks_by};
 ghost use Rattle.model.specs.Symbols.{Below, subtract_at};
@@ -14,7 +15,7 @@ use params::Params;
 
 // Where a data symbol stands: its number; its branch, which is the data symbols from `start` to before `end`; and the run of that
 // branch, which is the positions of the table from `first` to before `last`.
-#[derive(Drop)]
+#[derive(Clone, Copy)]
 pub struct Place {
     pub symbol: usize,
     pub start: usize,

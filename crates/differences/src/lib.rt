@@ -1,5 +1,6 @@
 // Self-orthogonality of a table: the differences of positions of one run, over all runs together, are all different. They are marked in a row of flags.
 #![tactic(auto)]
+
 ghost use Rattle.std.specs.Prelude.{◌≡◌, true, ℕ, ◌+◌, ◌<◌, ◌≤◌, length, get_or};
 ghost use Rattle.model.specs.Symbols.{same};
 ghost use Rattle.model.specs.Code.{self_orthogonal, differences, all_different};

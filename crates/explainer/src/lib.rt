@@ -9,7 +9,7 @@ ghost use Rattle.params.specs.Codes.{code_by};
 use params::Params;
 
 // What explain hands back: its number, the ground, h0, m0, m1, and the bits of the estimates that equal h0; refused, zeros beside the number.
-#[derive(Drop)]
+#[derive(Clone, Copy)]
 pub struct Explained {
     pub number: u32,
     pub ground: u32,

@@ -1,5 +1,6 @@
 // The entries of a file's contents: read from bytes, tested, and written as bytes, low byte first.
 #![tactic(auto)]
+
 ghost use Rattle.std.specs.Prelude.{◌≡◌, ◌+◌, ◌*◌, ◌<◌, ◌≤◌, length};
 ghost use Rattle.std.proofs.lemmas.List.Edits.{sets};
 ghost use Rattle.model.specs.Bytes.{bytes_in};
@@ -7,7 +8,7 @@ ghost use Rattle.model.specs.Files.{number_at, entry_bytes, contents_end, entry_
 ghost use Rattle.file_entries.specs.Entries.{entry_from, entry_in};
 
 // An entry: page number, q − 1, offset and length of the body.
-#[derive(Drop)]
+#[derive(Clone, Copy)]
 pub struct Entry {
     pub number: usize,
     pub top: usize,

@@ -1,5 +1,6 @@
 // The lists that a file of pages is written from: whether they agree, fit into an output and keep the rules.
 #![tactic(auto)]
+
 ghost use Rattle.std.specs.Prelude.{◌≡◌, true, ◌+◌, ◌<◌, ◌≤◌, eqb, leb, length};
 ghost use Rattle.model.specs.Files.{contents_end, entries_fit, listing, listed_from, total, write_answer};
 ghost use Rattle.file_lists.specs.Steps.{symbols_listed};

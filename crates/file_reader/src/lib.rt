@@ -5,7 +5,7 @@ ghost use Rattle.model.specs.Files.{contents_end, entries_from, sizes_of, total,
 ghost use Rattle.file_reader.specs.Turns.{end_from};
 
 // What the reader finds: its number, and the page's number, q − 1, offset and length; zeros where it is refused.
-#[derive(Drop)]
+#[derive(Clone, Copy)]
 pub struct Found {
     pub answer: u32,
     pub number: u32,

@@ -7,7 +7,7 @@ ghost use Rattle.model.specs.Files.{contents_end, contents_of, listing, listed_f
 use file_entries::Entry;
 
 // What the writer hands back: its number and the file's length, 0 where it is refused.
-#[derive(Drop)]
+#[derive(Clone, Copy)]
 pub struct Wrote {
     pub number: u32,
     pub length: usize,

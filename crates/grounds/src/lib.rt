@@ -14,7 +14,7 @@ use params::Params;
 use vote::Vote;
 
 // What explain tells of a data symbol.
-#[derive(Drop)]
+#[derive(Clone, Copy)]
 pub struct Told {
     pub ground_number: u32,
     pub leader: u32,

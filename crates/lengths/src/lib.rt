@@ -1,5 +1,6 @@
 // Whether the buffers that a call is lent are as it needs them: their lengths, and counters that are all zero.
 #![tactic(auto)]
+
 ghost use Rattle.std.specs.Prelude.{◌≡◌, ◌&&◌, ◌+◌, ◌*◌, eqb};
 ghost use Rattle.model.specs.Calls.{counters_fit};
 

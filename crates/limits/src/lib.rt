@@ -1,5 +1,6 @@
 // The limits of the sizes of a code, walked in order: q, k, b and J.
 #![tactic(auto)]
+
 ghost use Rattle.std.specs.Prelude.{◌≡◌, List, ℕ, ◌≤◌};
 ghost use Rattle.model.specs.Code.{lowest, highest};
 ghost use Rattle.model.specs.Calls.{first_that_applies, within, branches_fit, runs_fit};

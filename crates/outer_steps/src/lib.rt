@@ -44,7 +44,7 @@ fn weakest_of(
 }
 
 // What a block's step subtracts, and from which symbol; 0 where the block has no step.
-#[derive(Drop)]
+#[derive(Clone, Copy)]
 struct Step {
     symbol: usize,
     sum: u8,

@@ -4,7 +4,7 @@
 ghost use Rattle.std.specs.Prelude.{◌≡◌, ◌*◌, ◌/◌, ◌%◌, ◌≤◌};
 
 // "q is the alphabet size"; "b data branches of k symbols each, with k checks for all of them"; and whether the profile is that of bit pages.
-#[derive(Drop)]
+#[derive(Clone, Copy)]
 pub struct Params {
     pub q: u32,
     pub k: usize,

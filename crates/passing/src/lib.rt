@@ -12,7 +12,7 @@ use params::Params;
 use tally::Tally;
 
 // What a pass hands back beside the buffers: its number, and its changes, none where it is refused.
-#[derive(Drop)]
+#[derive(Clone, Copy)]
 pub struct Passed {
     pub number: u32,
     pub changes: u32,

@@ -1,5 +1,6 @@
 // The positions of a table that the C calls get as bytes, two for each, low byte first.
 #![tactic(auto)]
+
 ghost use Rattle.std.specs.Prelude.{◌≡◌, ◌&&◌, ◌+◌, ◌*◌, ◌≤◌, leb, length, take};
 ghost use Rattle.model.specs.Bytes.{positions_of};
 ghost use Rattle.position_bytes.specs.Positions.{kept};

@@ -1,5 +1,6 @@
 // Which thresholds of the list are taken: the first smaller one after an idle pass, and how many passes are run where every one is idle.
 #![tactic(auto)]
+
 ghost use Rattle.std.specs.Prelude.{◌≡◌, ◌≤◌, length, drop};
 ghost use Rattle.model.specs.Decoder.{none, first_smaller};
 ghost use Rattle.theory.specs.Schedule.{minima};

@@ -1,5 +1,6 @@
 // Whole slices of symbols: the range test, copying, clearing, the weight.
 #![tactic(auto)]
+
 ghost use Rattle.std.specs.Prelude.{◌≡◌, ◌+◌, ◌<◌, ◌≤◌, max, length};
 ghost use Rattle.model.specs.Calls.{all_below};
 ghost use Rattle.model.specs.Symbols.{differ, weight, tabulate};

@@ -1,5 +1,6 @@
 // Whole slices of symbols added and subtracted modulo q, in straight runs.
 #![tactic(auto)]
+
 ghost use Rattle.std.specs.Prelude.{◌≡◌, ◌+◌, ◌≤◌, length};
 ghost use Rattle.model.specs.Symbols.{add, Below, add_each, sub_each};
 

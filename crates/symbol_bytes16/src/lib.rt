@@ -1,5 +1,6 @@
 // Symbols of two bytes read from bytes and written as bytes, low byte first.
 #![tactic(auto)]
+
 ghost use Rattle.std.specs.Prelude.{◌≡◌, ◌*◌, ◌≤◌, length};
 ghost use Rattle.model.specs.Bytes.{symbol_size, symbols_of, symbol_bytes};
 ghost use Rattle.model.specs.Code.{wide16};

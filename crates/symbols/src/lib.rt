@@ -1,5 +1,6 @@
 // Symbols modulo q: compared, added and subtracted, one by one.
 #![tactic(auto)]
+
 ghost use Rattle.std.specs.Prelude.{◌≡◌, ◌+◌, ◌%◌, ◌<◌, ◌≤◌};
 ghost use Rattle.model.specs.Symbols.{add, sub, same};
 

@@ -1,5 +1,6 @@
 // The tests of a table, walked in order: the limits of the sizes, the positions of each run, and self-orthogonality; and the table check.
 #![tactic(auto)]
+
 ghost use Rattle.std.specs.Prelude.{◌≡◌};
 ghost use Rattle.model.specs.Code.{code_of};
 ghost use Rattle.model.specs.Calls.{first_that_applies, positions_fit, table_fits, table_answer};

@@ -4,7 +4,7 @@
 ghost use Rattle.std.specs.Prelude.{◌≡◌, ◌+◌, ◌<◌, ◌≤◌};
 
 // The four counts of a decode.
-#[derive(Drop)]
+#[derive(Clone, Copy)]
 pub struct Tally {
     pub passes: u32,
     pub changes: u32,
@@ -77,7 +77,7 @@ impl Tally {
 }
 
 // What decode hands back beside the buffers: its number, and the counts, four zeros where it is refused.
-#[derive(Drop)]
+#[derive(Clone, Copy)]
 pub struct Decoded {
     pub number: u32,
     pub tally: Tally,

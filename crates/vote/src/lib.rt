@@ -21,7 +21,7 @@ pub fn count_equal(es: &[u8], v: u8) -> u8
 }
 
 // A value, and how many estimates have it.
-#[derive(Drop)]
+#[derive(Clone, Copy)]
 pub struct Commonest {
     pub value: u8,
     pub count: u8,
@@ -113,7 +113,7 @@ fn next_count(es: &[u8], h: u8) -> u8
 }
 
 // What the vote tells: the leader, its count, the largest count among the other values, and the zeros.
-#[derive(Drop)]
+#[derive(Clone, Copy)]
 pub struct Vote {
     pub leader: u8,
     pub lead: u8,

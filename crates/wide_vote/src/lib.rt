@@ -31,7 +31,7 @@ pub fn count_equal(es: &[u32], v: u32) -> u32
 }
 
 // A value, and how many estimates have it.
-#[derive(Drop)]
+#[derive(Clone, Copy)]
 pub struct Commonest {
     pub value: u32,
     pub count: u32,
@@ -123,7 +123,7 @@ pub fn next_count(es: &[u32], h: u32) -> u32
 }
 
 // What the vote tells: the leader, its count, the largest count among the other values, and the zeros.
-#[derive(Drop)]
+#[derive(Clone, Copy)]
 pub struct Vote {
     pub leader: u32,
     pub lead: u32,

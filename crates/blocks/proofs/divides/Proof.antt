@@ -7,24 +7,24 @@ use lib.Dec.{eqb}
 use Rattle.blocks.proofs.divides.Statement.{statement}
 use Rattle.blocks.proofs.divides.Tie as tie
 
-returns : tie.Need-returns
-returns c = ap (λ (n : ℕ). eqb n 0) (sym (mod-eq_of_lt c.if1.true))
+returns : tie.Need-returns-then-n-block
+returns c = ap (λ (n : ℕ). eqb n 0) (sym (mod-eq_of_lt c.if-n-block.true))
 
-cast-size : tie.Need-overflow-cast-size
+cast-size : tie.Need-overflow_cast-size
 cast-size c = search rules
 
-cast-symbols : tie.Need-overflow-cast-symbols
+cast-symbols : tie.Need-overflow_cast-symbols
 cast-symbols c = search rules
 
 above-requires : tie.Need-above-requires
 above-requires c κs = search rules
 
-rest-of-requires : tie.Need-rest-of-requires
+rest-of-requires : tie.Need-rest_of-requires
 rest-of-requires c κs = search rules
 
-returns-2 : tie.Need-returns-2
+returns-2 : tie.Need-returns
 returns-2 c = ap (λ (n : ℕ). eqb n 0) c.rest_of.ensures
 
-pub divides-spec : {M : Type 1} → statement M
-divides-spec =
+pub divides_spec : {M : Type 1} → statement M
+divides_spec =
     tie.close (tie.spec returns cast-size cast-symbols above-requires rest-of-requires returns-2)

@@ -4,12 +4,12 @@ use Rattle.theory.specs.InBlocks.{length_of, length_other}
 use Rattle.blocks.proofs.length_of.Statement.{statement}
 use Rattle.blocks.proofs.length_of.Tie as tie
 
-returns : tie.Need-returns
+returns : tie.Need-returns-then-block-eq1
 unfolding length_of
-returns c = sym (ap length_of c.if1.true)
+returns c = sym (ap length_of c.if-block-eq1.true)
 
-returns-2 : tie.Need-returns-2
-returns-2 c = sym (length_other _ c.if1.false)
+returns-2 : tie.Need-returns-else-block-eq1
+returns-2 c = sym (length_other _ c.if-block-eq1.false)
 
-pub length-of-spec : {M : Type 1} → statement M
-length-of-spec = tie.close (tie.spec returns returns-2)
+pub length_of_spec : {M : Type 1} → statement M
+length_of_spec = tie.close (tie.spec returns returns-2)

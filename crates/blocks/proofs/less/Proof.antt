@@ -16,23 +16,23 @@ carry : (c : tie.Start)
     (f ≤ 1) × (m * f ≤ n) × (n - m * f ≡ choose (leb m n) (n - m) n)
 carry c = by_carry c.args.n c.args.m _ (omega arith) (omega arith) refl
 
-add-above : tie.Need-overflow-add-above
+add-above : tie.Need-overflow_add-above
 add-above c = search rules
 
-sub-above : tie.Need-overflow-sub-above
+sub-above : tie.Need-overflow_sub-above
 sub-above c = search rules
 
-cast-result : tie.Need-overflow-cast-result
+cast-result : tie.Need-overflow_cast-result
 cast-result c = search rules
 
-mul-result : tie.Need-overflow-mul-result
+mul-result : tie.Need-overflow_mul-result
 mul-result c = record { fits = omega (arith, (carry c).1) }
 
-sub-result : tie.Need-overflow-sub-result
+sub-result : tie.Need-overflow_sub-result
 sub-result c = (carry c).1
 
 returns : tie.Need-returns
 returns c = (carry c).2
 
-pub less-spec : {M : Type 1} → statement M
-less-spec = tie.close (tie.spec add-above sub-above cast-result mul-result sub-result returns)
+pub less_spec : {M : Type 1} → statement M
+less_spec = tie.close (tie.spec add-above sub-above cast-result mul-result sub-result returns)

@@ -15,41 +15,41 @@ use Rattle.checks.proofs.gather_symbol.Statement.{statement}
 use Rattle.checks.proofs.gather_symbol.Tie as tie
 
 -- the start, from where the place is found, and the code
-abbrev start : tie.After-place-of → tie.Start
+abbrev start : tie.After-place_of-place → tie.Start
 start c = c.before.before.before.before.before.before
 
 abbrev code_at : tie.Start → Code
 code_at b = code_by b.args.code b.args.positions.now
 
-checks-each-requires : tie.Need-checks-each-requires
+checks-each-requires : tie.Need-checks_each-requires
 checks-each-requires c κs = search rules
 
-place-of-requires : tie.Need-place-of-requires
+place-of-requires : tie.Need-place_of-place-requires
 place-of-requires c κs = search rules
 
 -- the place is that of the symbol, and what it is good for
-number : (c : tie.After-place-of) → c.place_of.result.symbol ≡ (start c).args.symbol
-number c = ap (λ (p : Place). p.symbol) c.place_of.ensures
+number : (c : tie.After-place_of-place) → c.place_of-place.result.symbol ≡ (start c).args.symbol
+number c = ap (λ (p : Place). p.symbol) c.place_of-place.ensures
 
-place : (c : tie.After-place-of) → Found (code_at (start c)) (start c).args.s.now c.place_of.result
-place c = let b = start c in found b.pre.0 (placed_by (code_at b) _ _ _ c.before.checks-each.ensures b.pre.2 c.place_of.ensures)
+place : (c : tie.After-place_of-place) → Found (code_at (start c)) (start c).args.s.now c.place_of-place.result
+place c = let b = start c in found b.requires.0 (placed_by (code_at b) _ _ _ c.before.checks_each.ensures b.requires.2 c.place_of-place.ensures)
 
-sub-index : tie.Need-overflow-sub-index
+sub-index : tie.Need-overflow_sub-index
 sub-index c = omega (arith, (place c.before).start_low, number c.before)
 
-mul-gather : tie.Need-overflow-mul-gather
+mul-gather : tie.Need-offset_bounds-positions-first
 mul-gather c = let g = place c.before in omega (arith, g.few, g.first_last)
 
-sub-gather : tie.Need-overflow-sub-gather
+sub-gather : tie.Need-slice_bounds-gather-count
 sub-gather c = (place c.before).first_last
 
-part-gather-start : tie.Need-slice-bounds-gather-start
+part-gather-start : tie.Need-slice_bounds-gather-start
 part-gather-start c = (place c.before).first_last
 
-part-gather-end : tie.Need-slice-bounds-gather-end
+part-gather-end : tie.Need-slice_bounds-gather-end
 part-gather-end c = (place c.before).last_in
 
-shared-slice-read-gather : tie.Need-shared-slice-read-gather
+shared-slice-read-gather : tie.Need-bounds-d-symbol
 shared-slice-read-gather c = search rules
 
 gather-requires : tie.Need-gather-requires
@@ -58,7 +58,7 @@ gather-requires c κs =
     let g = place p in
     (g.checks_lent, omega (arith, g.index_low, number p), omega (arith, g.run_length, g.each, (start p).requires.3))
 
-same_length : tie.Need-same-length
+same_length : tie.Need-shape_of-es
 same_length c = search rules
 
 returns : tie.Need-returns
@@ -67,13 +67,13 @@ returns c =
     let b = start p in
     let a = b.args in
     let own = get_or a.d.now a.symbol 0 in
-    let index : a.symbol - p.place_of.result.start ≡ p.place_of.result.symbol - p.place_of.result.start = ap (λ (n : ℕ). n - p.place_of.result.start) (sym (number p)) in
+    let index : a.symbol - p.place_of-place.result.start ≡ p.place_of-place.result.symbol - p.place_of-place.result.start = ap (λ (n : ℕ). n - p.place_of-place.result.start) (sym (number p)) in
     c.before.before.gather.ensures
     ∙ ap (λ (is : List ℕ). own ∷ symbols_at a.s.now is)
-    (ap (checks_by a.code.k (run_at p.place_of.result a.positions.now)) index ∙ (place p).checks_are ∙ ap (checks_of (code_at b)) (number p))
+    (ap (checks_by a.code.k (run_at p.place_of-place.result a.positions.now)) index ∙ (place p).checks_are ∙ ap (checks_of (code_at b)) (number p))
 
-pub gather-symbol-spec : {M : Type 1} → statement M
-gather-symbol-spec =
+pub gather_symbol_spec : {M : Type 1} → statement M
+gather_symbol_spec =
     tie.close
     (tie.spec
     checks-each-requires

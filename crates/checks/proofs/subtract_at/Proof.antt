@@ -8,65 +8,65 @@ use Rattle.checks.specs.Checks.{at_checks_of, by_position, check_inside, Subtrac
 use Rattle.checks.proofs.subtract_at.Statement.{statement}
 use Rattle.checks.proofs.subtract_at.Tie as tie
 
-abbrev invariant-loop : tie.invariant-loop
+abbrev invariant-loop : tie.invariant-loop-i
 invariant-loop code positions j h s₀ i₀ s i = Subtracted code.q h code.k positions j s₀ i s
 
-abbrev decreases-loop : tie.decreases-loop
+abbrev decreases-loop : tie.decreases-loop-i
 decreases-loop code positions j h s₀ i₀ s i = length positions - i
 
 -- the start, seen from the loop
-abbrev start : tie.At-loop invariant-loop decreases-loop → tie.Start invariant-loop decreases-loop
+abbrev start : tie.At-loop-i invariant-loop decreases-loop → tie.Start invariant-loop decreases-loop
 start c = c.before.before.before
 
-loop-holds : tie.Need-loop-init invariant-loop decreases-loop
+loop-holds : tie.Need-loop-i-init invariant-loop decreases-loop
 loop-holds c = subtract_none _ _ _ _ _ _
 
-mul-check-of : tie.Need-overflow-mul-check-of invariant-loop decreases-loop
+mul-check-of : tie.Need-offset_bounds-positions-i invariant-loop decreases-loop
 mul-check-of c = search rules
 
-shared-slice-read-check-of : tie.Need-shared-slice-read-check-of invariant-loop decreases-loop
+shared-slice-read-check-of : tie.Need-bounds-positions-i invariant-loop decreases-loop
 shared-slice-read-check-of c = omega arith
 
-check-of-requires : tie.Need-check-of-requires invariant-loop decreases-loop
+check-of-requires : tie.Need-check_of-c-requires invariant-loop decreases-loop
 check-of-requires c κs =
     let l = c.before.before in
     let p = (start l).requires in
     by_position p.0 _ _ p.1 (omega arith)
 
-slice-read-sub-mod : tie.Need-slice-read-sub-mod invariant-loop decreases-loop
+slice-read-sub-mod : tie.Need-bounds-s-c invariant-loop decreases-loop
 slice-read-sub-mod c =
     let l = c.before.before.before.before in
-    check_inside (at_checks_of (start l).requires.0 l.loop.s l.loop.invariant.sized) _ _ c.before.check-of.ensures
+    check_inside (at_checks_of (start l).requires.0 l.loop-i.s l.loop-i.invariant.sized) _ _ c.before.check_of-c.ensures
 
-sub-mod-requires : tie.Need-sub-mod-requires invariant-loop decreases-loop
+sub-mod-requires : tie.Need-sub_mod-requires invariant-loop decreases-loop
 sub-mod-requires c κs =
     let l = c.before.before.before.before in
-    let low = subtract_below l.loop.invariant (omega arith) (start l).requires.4 in
-    omega (arith, low c.before.check-of.result)
+    let low = subtract_below l.loop-i.invariant (omega arith) (start l).requires.4 in
+    omega (arith, low c.before.check_of-c.result)
 
-slice-write-s : tie.Need-slice-write-s invariant-loop decreases-loop
+slice-write-s : tie.Need-bounds-s-c-in-loop-i invariant-loop decreases-loop
 slice-write-s c = slice-read-sub-mod c.before
 
-add-i : tie.Need-overflow-add-i invariant-loop decreases-loop
+add-i : tie.Need-overflow_add-i invariant-loop decreases-loop
 add-i c = omega arith
 
-loop-less : tie.Need-loop-smaller invariant-loop decreases-loop
+loop-less : tie.Need-loop-i-smaller invariant-loop decreases-loop
 loop-less c = omega arith
 
-loop-again : tie.Need-loop-preserved invariant-loop decreases-loop
+loop-again : tie.Need-loop-i-preserved invariant-loop decreases-loop
 loop-again c =
     let l = c.before.before.before.before.before in
-    let at = c.before.before.check-of in
-    subtract_turn l.loop.invariant _ _ _ (omega arith) at.ensures c.sub-mod.ensures refl
+    let at = c.before.before.check_of-c in
+    subtract_turn l.loop-i.invariant _ _ _ (omega arith) at.ensures c.sub_mod.ensures refl
 
-same_length : tie.Need-same-length invariant-loop decreases-loop
+same_length : tie.Need-shape_of-s invariant-loop decreases-loop
 same_length c = omega arith
 
 returns : tie.Need-returns invariant-loop decreases-loop
-returns c = subtract_all c.before.loop.invariant (omega arith)
+returns c = subtract_all c.before.loop-i.invariant (omega arith)
 
-pub subtract-at-spec : {M : Type 1} → statement M
-subtract-at-spec =
+pub subtract_at_spec : {M : Type 1} → statement M
+subtract_at_spec =
     tie.close
     (tie.spec
     invariant-loop

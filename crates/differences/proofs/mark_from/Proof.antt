@@ -11,72 +11,72 @@ use Rattle.differences.specs.Folded.{folded_from, from_turn, from_end}
 use Rattle.differences.proofs.mark_from.Statement.{statement}
 use Rattle.differences.proofs.mark_from.Tie as tie
 
-abbrev invariant-loop : tie.invariant-loop
+abbrev invariant-loop : tie.invariant-loop-l
 invariant-loop k b later seen₀ l₀ seen l = (l ≤ length later) × (length seen ≡ length seen₀) × (mark (folded_from k b (drop l later)) seen ≡ mark (folded_from k b later) seen₀)
 
-abbrev decreases-loop : tie.decreases-loop
+abbrev decreases-loop : tie.decreases-loop-l
 decreases-loop k b later seen₀ l₀ seen l = length later - l
 
-loop-holds : tie.Need-loop-init invariant-loop decreases-loop
+loop-holds : tie.Need-loop-l-init invariant-loop decreases-loop
 loop-holds c = (omega arith, refl, refl)
 
-mul-a : tie.Need-overflow-mul-a invariant-loop decreases-loop
+mul-a : tie.Need-offset_bounds-later-l invariant-loop decreases-loop
 mul-a c = omega arith
 
-shared-slice-read-a : tie.Need-shared-slice-read-a invariant-loop decreases-loop
+shared-slice-read-a : tie.Need-bounds-later-l invariant-loop decreases-loop
 shared-slice-read-a c = omega arith
 
-cast-a : tie.Need-overflow-cast-a invariant-loop decreases-loop
-cast-a c = omega (arith, c.shared-slice-known2.given c.before.before.loop.l)
+cast-a : tie.Need-overflow_cast-a invariant-loop decreases-loop
+cast-a c = omega (arith, c.shared_slice_known-in-loop-l-1.given c.before.before.loop-l.l)
 
-sub-folded : tie.Need-overflow-sub-folded invariant-loop decreases-loop
-sub-folded c = let b = c.before.before in omega (arith, fit_at _ _ _ b.before.before.before.requires.0 b.loop.l (omega arith))
+sub-folded : tie.Need-overflow_sub-a invariant-loop decreases-loop
+sub-folded c = let b = c.before.before in omega (arith, fit_at _ _ _ b.before.before.before.requires.0 b.loop-l.l (omega arith))
 
-folded-requires : tie.Need-folded-requires invariant-loop decreases-loop
-folded-requires c κs = let b = c.before.before in omega (arith, fit_at _ _ _ b.before.before.before.requires.0 b.loop.l (omega arith))
+folded-requires : tie.Need-folded-v-requires invariant-loop decreases-loop
+folded-requires c κs = let b = c.before.before in omega (arith, fit_at _ _ _ b.before.before.before.requires.0 b.loop-l.l (omega arith))
 
-slice-read-if1 : tie.Need-slice-read-if1 invariant-loop decreases-loop
-slice-read-if1 c = let b = c.before.before.before.before in omega (arith, c.before.folded.ensures, fit_at _ _ _ b.before.before.before.requires.0 b.loop.l (omega arith))
+slice-read-if1 : tie.Need-bounds-seen-v invariant-loop decreases-loop
+slice-read-if1 c = let b = c.before.before.before.before in omega (arith, c.before.folded-v.ensures, fit_at _ _ _ b.before.before.before.requires.0 b.loop-l.l (omega arith))
 
-same_length : tie.Need-same-length invariant-loop decreases-loop
+same_length : tie.Need-shape_of-seen-then-seen-v-ne0 invariant-loop decreases-loop
 same_length c = search rules
 
-returns : tie.Need-returns invariant-loop decreases-loop
+returns : tie.Need-returns-then-seen-v-ne0 invariant-loop decreases-loop
 returns c =
     let b = c.before.before.before.before.before in
     let x = b.before.before.before.args in
-    let turn = from_turn x.k x.b x.later.now b.loop.l (omega arith)
-    ∙ ap (λ (v : ℕ). v ∷ folded_from x.k x.b (drop (b.loop.l + 1) x.later.now)) (sym c.before.before.folded.ensures) in
-    sym (ap (λ (vs : List ℕ). mark vs b.loop.seen) turn ∙ mark_again _ _ _ c.if1.true) ∙ b.loop.invariant.2
+    let turn = from_turn x.k x.b x.later.now b.loop-l.l (omega arith)
+    ∙ ap (λ (v : ℕ). v ∷ folded_from x.k x.b (drop (b.loop-l.l + 1) x.later.now)) (sym c.before.before.folded-v.ensures) in
+    sym (ap (λ (vs : List ℕ). mark vs b.loop-l.seen) turn ∙ mark_again _ _ _ c.if-seen-v-ne0.true) ∙ b.loop-l.invariant.2
 
-slice-write-seen : tie.Need-slice-write-seen invariant-loop decreases-loop
-slice-write-seen c = let b = c.before.before.before.before.before in omega (arith, c.before.before.folded.ensures, fit_at _ _ _ b.before.before.before.requires.0 b.loop.l (omega arith))
+slice-write-seen : tie.Need-bounds-seen-v-in-loop-l invariant-loop decreases-loop
+slice-write-seen c = let b = c.before.before.before.before.before in omega (arith, c.before.before.folded-v.ensures, fit_at _ _ _ b.before.before.before.requires.0 b.loop-l.l (omega arith))
 
-add-l : tie.Need-overflow-add-l invariant-loop decreases-loop
+add-l : tie.Need-overflow_add-l invariant-loop decreases-loop
 add-l c = omega arith
 
-loop-less : tie.Need-loop-smaller invariant-loop decreases-loop
+loop-less : tie.Need-loop-l-smaller invariant-loop decreases-loop
 loop-less c = omega arith
 
-loop-again : tie.Need-loop-preserved invariant-loop decreases-loop
+loop-again : tie.Need-loop-l-preserved invariant-loop decreases-loop
 loop-again c =
     let b = c.before.before.before.before.before in
     let x = b.before.before.before.args in
-    let turn = from_turn x.k x.b x.later.now b.loop.l (omega arith)
-    ∙ ap (λ (v : ℕ). v ∷ folded_from x.k x.b (drop (b.loop.l + 1) x.later.now)) (sym c.before.before.folded.ensures) in
-    (omega arith, simp length-set b.loop.invariant.1, sym (ap (λ (vs : List ℕ). mark vs b.loop.seen) turn ∙ mark_new _ _ _ _ (omega arith) c.if1.false) ∙ b.loop.invariant.2)
+    let turn = from_turn x.k x.b x.later.now b.loop-l.l (omega arith)
+    ∙ ap (λ (v : ℕ). v ∷ folded_from x.k x.b (drop (b.loop-l.l + 1) x.later.now)) (sym c.before.before.folded-v.ensures) in
+    (omega arith, simp length-set b.loop-l.invariant.1, sym (ap (λ (vs : List ℕ). mark vs b.loop-l.seen) turn ∙ mark_new _ _ _ _ (omega arith) c.if-seen-v-ne0.false) ∙ b.loop-l.invariant.2)
 
-same-length-2 : tie.Need-same-length-2 invariant-loop decreases-loop
+same-length-2 : tie.Need-shape_of-seen invariant-loop decreases-loop
 same-length-2 c = search rules
 
-returns-2 : tie.Need-returns-2 invariant-loop decreases-loop
+returns-2 : tie.Need-returns invariant-loop decreases-loop
 returns-2 c =
     let b = c.before in
     let x = b.before.before.before.args in
-    sym (from_end x.k x.b x.later.now b.loop.l b.loop.seen (omega arith)) ∙ b.loop.invariant.2
+    sym (from_end x.k x.b x.later.now b.loop-l.l b.loop-l.seen (omega arith)) ∙ b.loop-l.invariant.2
 
-pub mark-from-spec : {M : Type 1} → statement M
-mark-from-spec =
+pub mark_from_spec : {M : Type 1} → statement M
+mark_from_spec =
     tie.close
     (tie.spec
     invariant-loop

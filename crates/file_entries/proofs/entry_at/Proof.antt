@@ -5,47 +5,47 @@ use borrow.Author.Rules.{rules}
 use Rattle.file_entries.proofs.entry_at.Statement.{statement}
 use Rattle.file_entries.proofs.entry_at.Tie as tie
 
-contents-end-requires : tie.Need-contents-end-requires
+contents-end-requires : tie.Need-contents_end-start-requires
 contents-end-requires c κs = search rules
 
-two-at-requires : tie.Need-two-at-requires
+two-at-requires : tie.Need-two_at-number-requires
 two-at-requires c κs = search rules
 
-add_wide : tie.Need-overflow-add-wide
+add_wide : tie.Need-overflow_add-start
 add_wide c = search rules
 
-shared-slice-read-wide : tie.Need-shared-slice-read-wide
+shared-slice-read-wide : tie.Need-bounds-file-start
 shared-slice-read-wide c = search rules
 
-wide-requires : tie.Need-wide-requires
+wide-requires : tie.Need-wide-top-requires
 wide-requires c κs = search rules
 
-add-four-at : tie.Need-overflow-add-four-at
+add-four-at : tie.Need-overflow_add-start-2
 add-four-at c = search rules
 
-four-at-requires : tie.Need-four-at-requires
+four-at-requires : tie.Need-four_at-offset-requires
 four-at-requires c κs = search rules
 
-add-four-at-2 : tie.Need-overflow-add-four-at-2
+add-four-at-2 : tie.Need-overflow_add-start-3
 add-four-at-2 c = search rules
 
-four-at-requires-2 : tie.Need-four-at-requires-2
+four-at-requires-2 : tie.Need-four_at-size-requires
 four-at-requires-2 c κs = search rules
 
 returns : tie.Need-returns
 returns c =
     let two = c.before.before.before.before in
     let a = two.before.before.before.args in (
-      entry-from a.file.now a.place _ two.before.contents-end.ensures (omega arith) two.two_at.ensures.0 c.before.before.wide.ensures.0
-          c.before.four-at.ensures.0 c.four-at2.ensures.0,
+      entry-from a.file.now a.place _ two.before.contents_end-start.ensures (omega arith) two.two_at-number.ensures.0 c.before.before.wide-top.ensures.0
+          c.before.four_at-offset.ensures.0 c.four_at-size.ensures.0,
       omega arith,
       omega arith,
       omega arith,
       omega arith,
     )
 
-pub entry-at-spec : {M : Type 1} → statement M
-entry-at-spec =
+pub entry_at_spec : {M : Type 1} → statement M
+entry_at_spec =
     tie.close
     (tie.spec
     contents-end-requires

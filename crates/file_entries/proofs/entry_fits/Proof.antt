@@ -6,34 +6,34 @@ use borrow.Author.Rules.{rules}
 use Rattle.file_entries.proofs.entry_fits.Statement.{statement}
 use Rattle.file_entries.proofs.entry_fits.Tie as tie
 
-returns : tie.Need-returns
+returns : tie.Need-returns-then-e-least
 returns c = sym (not_fits _ _ _ _ (λ f. omega arith))
 
-returns-2 : tie.Need-returns-2
+returns-2 : tie.Need-returns-then-e-lt2
 returns-2 c = sym (not_fits _ _ _ _ (λ f. omega arith))
 
-returns-3 : tie.Need-returns-3
+returns-3 : tie.Need-returns-then-e-gt255
 returns-3 c = sym (not_fits _ _ _ _ (λ f. omega arith))
 
-returns-4 : tie.Need-returns-4
+returns-4 : tie.Need-returns-then-e-lt2-2
 returns-4 c = sym (not_fits _ _ _ _ (λ f. omega arith))
 
-returns-5 : tie.Need-returns-5
+returns-5 : tie.Need-returns-then-e-gt8192
 returns-5 c = sym (not_fits _ _ _ _ (λ f. omega arith))
 
-returns-6 : tie.Need-returns-6
+returns-6 : tie.Need-returns-then-e-start
 returns-6 c = sym (not_fits _ _ _ _ (λ f. omega arith))
 
-add-result : tie.Need-overflow-add-result
+add-result : tie.Need-overflow_add-result
 add-result c = search rules
 
-returns-7 : tie.Need-returns-7
+returns-7 : tie.Need-returns
 returns-7 c =
     let at13 = c.before.before.before.before.before.before.before.before.before.before.before.before.before in
     let a = at13.args in
     fits_last a.least a.start a.end _ (omega arith) (omega arith) (omega arith) (omega arith) (omega arith) (omega arith)
 
-pub entry-fits-spec : {M : Type 1} → statement M
-entry-fits-spec =
+pub entry_fits_spec : {M : Type 1} → statement M
+entry_fits_spec =
     tie.close
     (tie.spec returns returns-2 returns-3 returns-4 returns-5 returns-6 add-result returns-7)

@@ -11,46 +11,46 @@ use borrow.Author.Rules.{rules}
 use Rattle.file_entries.proofs.put_entry.Statement.{statement}
 use Rattle.file_entries.proofs.put_entry.Tie as tie
 
-put-two-requires : tie.Need-put-two-requires
+put-two-requires : tie.Need-put_two-requires
 put-two-requires c κs = search rules
 
-cast-d : tie.Need-overflow-cast-d
+cast-d : tie.Need-overflow_cast-d
 cast-d c = search rules
 
-add-d : tie.Need-overflow-add-d
+add-d : tie.Need-overflow_add-d
 add-d c = search rules
 
-slice-write-d : tie.Need-slice-write-d
+slice-write-d : tie.Need-bounds-d-at
 slice-write-d c = search rules
 
-add-put-word : tie.Need-overflow-add-put-word
+add-put-word : tie.Need-overflow_add-at
 add-put-word c = search rules
 
-cast-put-word : tie.Need-overflow-cast-put-word
+cast-put-word : tie.Need-overflow_cast-e
 cast-put-word c = search rules
 
-put-word-requires : tie.Need-put-word-requires
+put-word-requires : tie.Need-put_word-requires
 put-word-requires c κs = simp length-set (omega arith)
 
-add-put-word-2 : tie.Need-overflow-add-put-word-2
+add-put-word-2 : tie.Need-overflow_add-at-2
 add-put-word-2 c = search rules
 
-cast-put-word-2 : tie.Need-overflow-cast-put-word-2
+cast-put-word-2 : tie.Need-overflow_cast-e-2
 cast-put-word-2 c = search rules
 
-put-word-requires-2 : tie.Need-put-word-requires-2
+put-word-requires-2 : tie.Need-put_word-requires-2
 put-word-requires-2 c κs =
     let at10 = c.before.before.before.before.before.before.before.before.before.before in
     let at13 = at10.before.before.before in
     let a = at13.args in
-    omega (arith, length-set at10.put_two.new.0 (a.at + 2) (a.e.top % 256))
+    omega (arith, length-set at10.put_two.new.d (a.at + 2) (a.e.top % 256))
 
-same_length : tie.Need-same-length
+same_length : tie.Need-shape_of-d
 same_length c =
     let at13 = c.before.before.before.before.before.before.before.before.before.before.before.before.before in
     let at16 = at13.before.before.before in
     let a = at16.args in
-    omega (arith, length-set at13.put_two.new.0 (a.at + 2) (a.e.top % 256))
+    omega (arith, length-set at13.put_two.new.d (a.at + 2) (a.e.top % 256))
 
 returns : tie.Need-returns
 returns c =
@@ -60,13 +60,13 @@ returns c =
     let at16 = at13.before.before.before in
     let a = at16.args in
     let e = a.e in
-    at2.put-word2.ensures
+    at2.put_word-2.ensures
     ∙ ap (λ (l : List ℕ). sets l (a.at + 7) (word_of e.size)) (at7.put_word.ensures
     ∙ ap (λ (l : List ℕ). sets (set l (a.at + 2) (e.top % 256)) (a.at + 3) (word_of e.offset)) at13.put_two.ensures)
     ∙ entry_put a.d.now a.at e.number e.top e.offset e.size
 
-pub put-entry-spec : {M : Type 1} → statement M
-put-entry-spec =
+pub put_entry_spec : {M : Type 1} → statement M
+put_entry_spec =
     tie.close
     (tie.spec
     put-two-requires

@@ -7,28 +7,28 @@ use borrow.Author.Rules.{rules}
 use Rattle.file_entries.proofs.put_two.Statement.{statement}
 use Rattle.file_entries.proofs.put_two.Tie as tie
 
-cast-d : tie.Need-overflow-cast-d
+cast-d : tie.Need-overflow_cast-d
 cast-d c = search rules
 
-slice-write-d : tie.Need-slice-write-d
+slice-write-d : tie.Need-bounds-d-at
 slice-write-d c = search rules
 
-cast-d-2 : tie.Need-overflow-cast-d-2
+cast-d-2 : tie.Need-overflow_cast-d-2
 cast-d-2 c = search rules
 
-add-d : tie.Need-overflow-add-d
+add-d : tie.Need-overflow_add-d
 add-d c = search rules
 
-slice-write-d-2 : tie.Need-slice-write-d-2
+slice-write-d-2 : tie.Need-bounds-d-at-2
 slice-write-d-2 c = simp length-set (omega arith)
 
-same_length : tie.Need-same-length
+same_length : tie.Need-shape_of-d
 same_length c = search rules
 
 returns : tie.Need-returns
 unfolding bytes_in
 returns c = simp towards_suc
 
-pub put-two-spec : {M : Type 1} → statement M
-put-two-spec =
+pub put_two_spec : {M : Type 1} → statement M
+put_two_spec =
     tie.close (tie.spec cast-d slice-write-d cast-d-2 add-d slice-write-d-2 same_length returns)

@@ -16,16 +16,16 @@ quarter m n d = elim (ℕ_discrete m (4 * n)) as (λ o. eqb (m / 4) n ≡ eqb m 
   | no o ↦ ne_eqb (m / 4) n (λ e. o (omega arith)) ∙ sym (ne_eqb m (4 * n) o)
 ]
 
-returns : tie.Need-returns
-returns c = simp (ne_eqb c.before.args.margins (4 * c.before.args.n) (λ e. c.if1.true (omega arith)))
+returns : tie.Need-returns-then-margins-ne0
+returns c = simp (ne_eqb c.before.args.margins (4 * c.before.args.n) (λ e. c.if-margins-ne0.true (omega arith)))
 
-two-fit-requires : tie.Need-two-fit-requires
+two-fit-requires : tie.Need-two_fit-requires
 two-fit-requires c κs = search rules
 
-returns-2 : tie.Need-returns-2
+returns-2 : tie.Need-returns
 returns-2 c =
     let a = c.before.before.args in
-    c.two-fit.ensures ∙ ap (λ (b : Bool). b && eqb a.counts 16) (quarter a.margins a.n c.before.if1.false)
+    c.two_fit.ensures ∙ ap (λ (b : Bool). b && eqb a.counts 16) (quarter a.margins a.n c.before.if-margins-ne0.false)
 
-pub bytes-fit-spec : {M : Type 1} → statement M
-bytes-fit-spec = tie.close (tie.spec returns two-fit-requires returns-2)
+pub bytes_fit_spec : {M : Type 1} → statement M
+bytes_fit_spec = tie.close (tie.spec returns two-fit-requires returns-2)

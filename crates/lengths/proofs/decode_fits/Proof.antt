@@ -18,17 +18,17 @@ none false b c e = refl
 abbrev rest : tie.Start → Bool
 rest b = let a = b.args in eqb a.result a.n && (eqb a.syndrome a.k && eqb a.difference a.n)
 
-returns : tie.Need-returns
+returns : tie.Need-returns-then-page-k
 returns c = let a = c.before.args in none a.others _ (rest c.before) (ne_eqb a.page (a.n + a.k) (omega arith))
 
-returns-2 : tie.Need-returns-2
+returns-2 : tie.Need-returns-then-page-k-2
 returns-2 c = let a = c.before.before.args in none a.others _ (rest c.before.before) (ne_eqb a.page (a.n + a.k) (omega arith))
 
-state-fits-requires : tie.Need-state-fits-requires
+state-fits-requires : tie.Need-state_fits-requires
 state-fits-requires c κs = search rules
 
-returns-3 : tie.Need-returns-3
-returns-3 c = let a = c.before.before.before.args in rw (eq-eqb a.page (a.n + a.k) (omega arith)) c.state-fits.ensures
+returns-3 : tie.Need-returns
+returns-3 c = let a = c.before.before.before.args in rw (eq-eqb a.page (a.n + a.k) (omega arith)) c.state_fits.ensures
 
-pub decode-fits-spec : {M : Type 1} → statement M
-decode-fits-spec = tie.close (tie.spec returns returns-2 state-fits-requires returns-3)
+pub decode_fits_spec : {M : Type 1} → statement M
+decode_fits_spec = tie.close (tie.spec returns returns-2 state-fits-requires returns-3)

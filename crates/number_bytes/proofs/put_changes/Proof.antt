@@ -5,10 +5,10 @@ use Rattle.number_bytes.specs.Words.{word_written}
 use Rattle.number_bytes.proofs.put_changes.Statement.{statement}
 use Rattle.number_bytes.proofs.put_changes.Tie as tie
 
-put-word-requires : tie.Need-put-word-requires
+put-word-requires : tie.Need-put_word-requires
 put-word-requires c κs = search rules
 
-same_length : tie.Need-same-length
+same_length : tie.Need-shape_of-d
 same_length c = search rules
 
 returns : tie.Need-returns
@@ -17,5 +17,5 @@ returns c =
     let b = w.before.before.before in
     w.put_word.ensures ∙ word_written b.args.d.now b.args.changes b.requires
 
-pub put-changes-spec : {M : Type 1} → statement M
-put-changes-spec = tie.close (tie.spec put-word-requires same_length returns)
+pub put_changes_spec : {M : Type 1} → statement M
+put_changes_spec = tie.close (tie.spec put-word-requires same_length returns)

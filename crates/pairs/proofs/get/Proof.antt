@@ -5,13 +5,13 @@ use Rattle.pairs.specs.Two.{two_at}
 use Rattle.pairs.proofs.get.Statement.{statement}
 use Rattle.pairs.proofs.get.Tie as tie
 
-shared-slice-read-joined : tie.Need-shared-slice-read-joined
+shared-slice-read-joined : tie.Need-bounds-bytes-at
 shared-slice-read-joined c = search rules
 
-add-joined : tie.Need-overflow-add-joined
+add-joined : tie.Need-overflow_add-at
 add-joined c = search rules
 
-shared-slice-read-joined-2 : tie.Need-shared-slice-read-joined-2
+shared-slice-read-joined-2 : tie.Need-bounds-bytes-at-2
 shared-slice-read-joined-2 c = search rules
 
 joined-requires : tie.Need-joined-requires

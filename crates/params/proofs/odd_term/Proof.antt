@@ -6,16 +6,16 @@ use native.Mathlib.Omega.{arith}
 use Rattle.params.proofs.odd_term.Statement.{statement}
 use Rattle.params.proofs.odd_term.Tie as tie
 
-returns : tie.Need-returns
+returns : tie.Need-returns-then-n-eq1
 returns c =
     let a = c.before.args in
-    sym (ap (λ (x : ℕ). x * a.term) c.if1.true ∙ one-mul a.term)
+    sym (ap (λ (x : ℕ). x * a.term) c.if-n-eq1.true ∙ one-mul a.term)
 
-returns-2 : tie.Need-returns-2
+returns-2 : tie.Need-returns-else-n-eq1
 returns-2 c =
     let a = c.before.args in
-    let e : a.n % 2 ≡ 0 = omega (arith, c.if1.false) in
+    let e : a.n % 2 ≡ 0 = omega (arith, c.if-n-eq1.false) in
     sym (ap (λ (x : ℕ). x * a.term) e ∙ zero-mul a.term)
 
-pub odd-term-spec : {M : Type 1} → statement M
-odd-term-spec = tie.close (tie.spec returns returns-2)
+pub odd_term_spec : {M : Type 1} → statement M
+odd_term_spec = tie.close (tie.spec returns returns-2)

@@ -7,59 +7,59 @@ use Rattle.params.specs.Sizes.{halved, halved_room, last_term}
 use Rattle.params.proofs.times.Statement.{statement}
 use Rattle.params.proofs.times.Tie as tie
 
-abbrev invariant-loop : tie.invariant-loop
+abbrev invariant-loop : tie.invariant-loop-rest
 invariant-loop b n sum₀ term₀ rest₀ sum term rest = sum + rest * term ≡ b * n
 
-abbrev decreases-loop : tie.decreases-loop
+abbrev decreases-loop : tie.decreases-loop-rest
 decreases-loop b n sum₀ term₀ rest₀ sum term rest = rest
 
 -- the start, from the loop
-abbrev start : tie.At-loop invariant-loop decreases-loop → tie.Start invariant-loop decreases-loop
+abbrev start : tie.At-loop-rest invariant-loop decreases-loop → tie.Start invariant-loop decreases-loop
 start c = c.before.before
 
-returns : tie.Need-returns invariant-loop decreases-loop
-returns c = rw c.if1.true (omega arith)
+returns : tie.Need-returns-then-b-eq1 invariant-loop decreases-loop
+returns c = rw c.if-b-eq1.true (omega arith)
 
-loop-holds : tie.Need-loop-init invariant-loop decreases-loop
+loop-holds : tie.Need-loop-rest-init invariant-loop decreases-loop
 loop-holds c = omega arith
 
-odd-term-requires : tie.Need-odd-term-requires invariant-loop decreases-loop
+odd-term-requires : tie.Need-odd_term-sum-requires invariant-loop decreases-loop
 odd-term-requires c κs = search rules
 
 -- one turn: what is added, and what is left
-turn : (c : tie.After-odd-term invariant-loop decreases-loop)
-    → c.before.before.loop.sum + c.odd-term.result + c.before.before.loop.rest / 2 * (c.before.before.loop.term + c.before.before.loop.term)
+turn : (c : tie.After-odd_term-sum invariant-loop decreases-loop)
+    → c.before.before.loop-rest.sum + c.odd_term-sum.result + c.before.before.loop-rest.rest / 2 * (c.before.before.loop-rest.term + c.before.before.loop-rest.term)
     ≡ (start c.before.before).args.b * (start c.before.before).args.n
-turn c = let l = c.before.before.loop in omega (arith, l.invariant, c.odd-term.ensures, halved l.rest l.term)
+turn c = let l = c.before.before.loop-rest in omega (arith, l.invariant, c.odd_term-sum.ensures, halved l.rest l.term)
 
-add-sum : tie.Need-overflow-add-sum invariant-loop decreases-loop
-add-sum c = omega (arith, turn c, (start c.before.before).pre)
+add-sum : tie.Need-overflow_add-sum invariant-loop decreases-loop
+add-sum c = omega (arith, turn c, (start c.before.before).requires)
 
-add_term : tie.Need-overflow-add-term invariant-loop decreases-loop
-add_term c = let l = c.before.before.loop in omega (arith, turn c, (start c.before.before).pre, halved_room l.rest l.term (omega arith))
+add_term : tie.Need-overflow_add-term invariant-loop decreases-loop
+add_term c = let l = c.before.before.loop-rest in omega (arith, turn c, (start c.before.before).requires, halved_room l.rest l.term (omega arith))
 
-loop-less : tie.Need-loop-smaller invariant-loop decreases-loop
+loop-less : tie.Need-loop-rest-smaller invariant-loop decreases-loop
 loop-less c = omega arith
 
-loop-again : tie.Need-loop-preserved invariant-loop decreases-loop
+loop-again : tie.Need-loop-rest-preserved invariant-loop decreases-loop
 loop-again c = turn c
 
-odd-term-requires-2 : tie.Need-odd-term-requires-2 invariant-loop decreases-loop
+odd-term-requires-2 : tie.Need-odd_term-requires invariant-loop decreases-loop
 odd-term-requires-2 c κs = search rules
 
 -- at the end
-whole : (c : tie.After-odd-term2 invariant-loop decreases-loop)
-    → c.before.before.loop.sum + c.odd-term2.result ≡ (start c.before.before).args.b * (start c.before.before).args.n
-whole c = let l = c.before.before.loop in omega (arith, l.invariant, c.odd-term2.ensures, last_term l.rest l.term (omega arith))
+whole : (c : tie.After-odd_term invariant-loop decreases-loop)
+    → c.before.before.loop-rest.sum + c.odd_term.result ≡ (start c.before.before).args.b * (start c.before.before).args.n
+whole c = let l = c.before.before.loop-rest in omega (arith, l.invariant, c.odd_term.ensures, last_term l.rest l.term (omega arith))
 
-add-result : tie.Need-overflow-add-result invariant-loop decreases-loop
-add-result c = omega (arith, whole c, (start c.before.before).pre)
+add-result : tie.Need-overflow_add-result invariant-loop decreases-loop
+add-result c = omega (arith, whole c, (start c.before.before).requires)
 
-returns-2 : tie.Need-returns-2 invariant-loop decreases-loop
+returns-2 : tie.Need-returns invariant-loop decreases-loop
 returns-2 c = whole c
 
-pub times-spec : {M : Type 1} → statement M
-times-spec =
+pub times_spec : {M : Type 1} → statement M
+times_spec =
     tie.close
     (tie.spec
     invariant-loop

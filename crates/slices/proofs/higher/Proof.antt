@@ -3,11 +3,11 @@ use native.Mathlib.Omega.{arith}
 use Rattle.slices.proofs.higher.Statement.{statement}
 use Rattle.slices.proofs.higher.Tie as tie
 
-returns : tie.Need-returns
+returns : tie.Need-returns-then-a-b
 returns c = omega arith
 
-returns-2 : tie.Need-returns-2
+returns-2 : tie.Need-returns-else-a-b
 returns-2 c = omega arith
 
-pub higher-spec : {M : Type 1} → statement M
-higher-spec = tie.close (tie.spec returns returns-2)
+pub higher_spec : {M : Type 1} → statement M
+higher_spec = tie.close (tie.spec returns returns-2)

@@ -4,17 +4,17 @@ use borrow.Author.Rules.{rules}
 use Rattle.slices.proofs.part_end.Statement.{statement}
 use Rattle.slices.proofs.part_end.Tie as tie
 
-sub-if1 : tie.Need-overflow-sub-if1
+sub-if1 : tie.Need-overflow_sub-n
 sub-if1 c = search rules
 
-add-result : tie.Need-overflow-add-result
+add-result : tie.Need-overflow_add-result
 add-result c = search rules
 
-returns : tie.Need-returns
+returns : tie.Need-returns-then-n-a-gt224
 returns c = omega arith
 
-returns-2 : tie.Need-returns-2
+returns-2 : tie.Need-returns-else-n-a-gt224
 returns-2 c = omega arith
 
-pub part-end-spec : {M : Type 1} → statement M
-part-end-spec = tie.close (tie.spec sub-if1 add-result returns returns-2)
+pub part_end_spec : {M : Type 1} → statement M
+part_end_spec = tie.close (tie.spec sub-if1 add-result returns returns-2)

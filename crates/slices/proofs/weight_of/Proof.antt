@@ -10,52 +10,52 @@ use Rattle.slices.specs.Scans.{weight_none, weight_part, weight_take_le}
 use Rattle.slices.proofs.weight_of.Statement.{statement}
 use Rattle.slices.proofs.weight_of.Tie as tie
 
-abbrev invariant-loop : tie.invariant-loop
+abbrev invariant-loop : tie.invariant-loop-a
 invariant-loop s n₀ a₀ n a = (a ≤ length s) × (n ≡ weight (take a s))
 
-abbrev decreases-loop : tie.decreases-loop
+abbrev decreases-loop : tie.decreases-loop-a
 decreases-loop s n₀ a₀ n a = length s - a
 
-loop-holds : tie.Need-loop-init invariant-loop decreases-loop
+loop-holds : tie.Need-loop-a-init invariant-loop decreases-loop
 loop-holds c = (omega arith, sym (weight_none c.before.args.s.now))
 
-part-end-requires : tie.Need-part-end-requires invariant-loop decreases-loop
+part-end-requires : tie.Need-part_end-e-requires invariant-loop decreases-loop
 part-end-requires c κs = omega arith
 
-sub-weight-of-part : tie.Need-overflow-sub-weight-of-part invariant-loop decreases-loop
+sub-weight-of-part : tie.Need-slice_bounds-weight_of_part-count invariant-loop decreases-loop
 sub-weight-of-part c = omega arith
 
-part-weight-of-part-start : tie.Need-slice-bounds-weight-of-part-start invariant-loop decreases-loop
+part-weight-of-part-start : tie.Need-slice_bounds-weight_of_part-start invariant-loop decreases-loop
 part-weight-of-part-start c = omega arith
 
-part-weight-of-part-end : tie.Need-slice-bounds-weight-of-part-end invariant-loop decreases-loop
+part-weight-of-part-end : tie.Need-slice_bounds-weight_of_part-end invariant-loop decreases-loop
 part-weight-of-part-end c = omega arith
 
-weight-of-part-requires : tie.Need-weight-of-part-requires invariant-loop decreases-loop
+weight-of-part-requires : tie.Need-weight_of_part-w-requires invariant-loop decreases-loop
 weight-of-part-requires c κs = simp (length-take, length-drop) (omega arith)
 
-cast-n : tie.Need-overflow-cast-n invariant-loop decreases-loop
+cast-n : tie.Need-overflow_cast-n invariant-loop decreases-loop
 cast-n c = search rules
 
-add-n : tie.Need-overflow-add-n invariant-loop decreases-loop
+add-n : tie.Need-overflow_add-n invariant-loop decreases-loop
 add-n c =
     let b = c.before.before.before.before in
-    omega (arith, weight_take_le b.before.before.args.s.now b.loop.a)
+    omega (arith, weight_take_le b.before.before.args.s.now b.loop-a.a)
 
-loop-less : tie.Need-loop-smaller invariant-loop decreases-loop
+loop-less : tie.Need-loop-a-smaller invariant-loop decreases-loop
 loop-less c = omega arith
 
-loop-again : tie.Need-loop-preserved invariant-loop decreases-loop
+loop-again : tie.Need-loop-a-preserved invariant-loop decreases-loop
 loop-again c =
     let b = c.before.before.before.before in
-    let part = weight_part b.before.before.args.s.now b.loop.a c.before.before.part-end.result (omega arith) in
-    omega (arith, c.weight-of-part.ensures)
+    let part = weight_part b.before.before.args.s.now b.loop-a.a c.before.before.part_end-e.result (omega arith) in
+    omega (arith, c.weight_of_part-w.ensures)
 
 returns : tie.Need-returns invariant-loop decreases-loop
-returns c = let l = c.before.loop in l.invariant.1 ∙ ap weight (take_all l.a _ (omega arith))
+returns c = let l = c.before.loop-a in l.invariant.1 ∙ ap weight (take_all l.a _ (omega arith))
 
-pub weight-of-spec : {M : Type 1} → statement M
-weight-of-spec =
+pub weight_of_spec : {M : Type 1} → statement M
+weight_of_spec =
     tie.close
     (tie.spec
     invariant-loop

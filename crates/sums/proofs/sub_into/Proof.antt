@@ -4,30 +4,30 @@ use Rattle.model.specs.Symbols.{sub_each}
 use Rattle.sums.proofs.sub_into.Statement.{statement}
 use Rattle.sums.proofs.sub_into.Tie as tie
 
-sub-symbols-requires : tie.Need-sub-symbols-requires
+sub-symbols-requires : tie.Need-sub_symbols-requires
 sub-symbols-requires c κs =
     let p = c.before.before.before.before.before.requires in
     (omega arith, p.1, p.2, λ i. omega (arith, p.3 i), λ i. omega (arith, p.4 i))
 
-sub-symbols-requires-2 : tie.Need-sub-symbols-requires-2
+sub-symbols-requires-2 : tie.Need-sub_symbols-requires-else-q-eq256
 sub-symbols-requires-2 c κs = search rules
 
-same_length : tie.Need-same-length
+same_length : tie.Need-shape_of-dst-then-q-eq256
 same_length c = search rules
 
-returns : tie.Need-returns
+returns : tie.Need-returns-then-q-eq256
 returns c =
     let a = c.before.before.before.before.before.before.before.before.args in
-    c.before.before.sub-symbols.ensures ∙ ap (λ (n : ℕ). sub_each n a.xs.now a.ys.now) (omega arith)
+    c.before.before.sub_symbols.ensures ∙ ap (λ (n : ℕ). sub_each n a.xs.now a.ys.now) (omega arith)
 
-same-length-2 : tie.Need-same-length-2
+same-length-2 : tie.Need-shape_of-dst-else-q-eq256
 same-length-2 c = search rules
 
-returns-2 : tie.Need-returns-2
+returns-2 : tie.Need-returns-else-q-eq256
 returns-2 c = search rules
 
-pub sub-into-spec : {M : Type 1} → statement M
-sub-into-spec =
+pub sub_into_spec : {M : Type 1} → statement M
+sub_into_spec =
     tie.close
     (tie.spec
     sub-symbols-requires

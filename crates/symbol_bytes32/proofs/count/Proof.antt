@@ -8,13 +8,13 @@ use Rattle.symbol_bytes32.specs.Turns.{odd_none}
 use Rattle.symbol_bytes32.proofs.count.Statement.{statement}
 use Rattle.symbol_bytes32.proofs.count.Tie as tie
 
-returns : tie.Need-returns
-returns c = odd_none (symbol_size wide32) c.before.args.bytes.now c.if1.true
+returns : tie.Need-returns-then-bytes-ne0
+returns c = odd_none (symbol_size wide32) c.before.args.bytes.now c.if-bytes-ne0.true
 
-returns-2 : tie.Need-returns-2
+returns-2 : tie.Need-returns
 returns-2 c =
     let bytes = c.before.args.bytes.now in
-    sym (symbols_length (symbol_size wide32) (omega arith) _ bytes (omega (arith, c.if1.false)))
+    sym (symbols_length (symbol_size wide32) (omega arith) _ bytes (omega (arith, c.if-bytes-ne0.false)))
 
 pub count_spec : {M : Type 1} → statement M
 count_spec = tie.close (tie.spec returns returns-2)

@@ -13,19 +13,19 @@ use Rattle.symbol_bytes32.specs.Turns.{two_more, symbol_more}
 use Rattle.symbol_bytes32.proofs.read_symbols.Statement.{statement}
 use Rattle.symbol_bytes32.proofs.read_symbols.Tie as tie
 
-abbrev invariant-loop : tie.invariant-loop
+abbrev invariant-loop : tie.invariant-loop-i
 invariant-loop bytes out₀ at₀ i₀ out at i =
     (i ≤ length out) × (length out ≡ length out₀) × (at ≡ i * symbol_size wide32) × (take i out ≡ take i (symbols_of (symbol_size wide32) bytes))
 
-abbrev decreases-loop : tie.decreases-loop
+abbrev decreases-loop : tie.decreases-loop-i
 decreases-loop bytes out₀ at₀ i₀ out at i = length out - i
 
 -- the start, seen from the loop
-abbrev start : tie.At-loop invariant-loop decreases-loop → tie.Start invariant-loop decreases-loop
+abbrev start : tie.At-loop-i invariant-loop decreases-loop → tie.Start invariant-loop decreases-loop
 start l = l.before.before.before
 
 -- one symbol more, from bytes at its place
-more : (l : tie.At-loop invariant-loop decreases-loop) (xs : List ℕ) (i x at : ℕ)
+more : (l : tie.At-loop-i invariant-loop decreases-loop) (xs : List ℕ) (i x at : ℕ)
     → let b = start l in
     let bytes = b.args.bytes.now in
     length xs ≡ length b.args.out.now → i < length xs → take i xs ≡ take i (symbols_of (symbol_size wide32) bytes)
@@ -34,109 +34,109 @@ more : (l : tie.At-loop invariant-loop decreases-loop) (xs : List ℕ) (i x at :
 more l xs i x at len h e f g =
     let b = start l in
     let bytes = b.args.bytes.now in
-    symbol_more (symbol_size wide32) (omega arith) _ bytes b.pre.0 xs i x len (omega (arith, len)) e (g ∙ ap (λ (m : ℕ). number_of (take (symbol_size wide32) (drop m bytes))) f)
+    symbol_more (symbol_size wide32) (omega arith) _ bytes b.requires.0 xs i x len (omega (arith, len)) e (g ∙ ap (λ (m : ℕ). number_of (take (symbol_size wide32) (drop m bytes))) f)
 
 -- all symbols are read
-whole : (l : tie.At-loop invariant-loop decreases-loop) (xs : List ℕ) (i : ℕ)
+whole : (l : tie.At-loop-i invariant-loop decreases-loop) (xs : List ℕ) (i : ℕ)
     → let b = start l in
     let symbols : List ℕ = symbols_of (symbol_size wide32) b.args.bytes.now in
     length xs ≡ length b.args.out.now → length xs ≤ i → take i xs ≡ take i symbols → xs ≡ symbols
 whole l xs i len h e =
     let b = start l in
     let bytes = b.args.bytes.now in
-    sym (take_all i xs h) ∙ e ∙ take_all i (symbols_of (symbol_size wide32) bytes) (omega (arith, len, symbols_length (symbol_size wide32) (omega arith) _ bytes b.pre.0))
+    sym (take_all i xs h) ∙ e ∙ take_all i (symbols_of (symbol_size wide32) bytes) (omega (arith, len, symbols_length (symbol_size wide32) (omega arith) _ bytes b.requires.0))
 
-loop-holds : tie.Need-loop-init invariant-loop decreases-loop
+loop-holds : tie.Need-loop-i-init invariant-loop decreases-loop
 loop-holds c = (omega arith, refl, omega arith, refl)
 
-add-loop : tie.Need-overflow-add-loop invariant-loop decreases-loop
-add-loop c = omega (arith, c.loop.invariant.1, (start c).requires.1)
+add-loop : tie.Need-overflow_add-i invariant-loop decreases-loop
+add-loop c = omega (arith, c.loop-i.invariant.1, (start c).requires.1)
 
 get-requires : tie.Need-get-requires invariant-loop decreases-loop
-get-requires c κs = let l = c.before in omega (arith, l.loop.invariant.1, l.loop.invariant.2, (start l).requires.0)
+get-requires c κs = let l = c.before in omega (arith, l.loop-i.invariant.1, l.loop-i.invariant.2, (start l).requires.0)
 
-mul-out : tie.Need-overflow-mul-out invariant-loop decreases-loop
-mul-out c = let l = c.before.before in omega (arith, l.loop.invariant.1, (start l).requires.1)
+mul-out : tie.Need-offset_bounds-out-i invariant-loop decreases-loop
+mul-out c = let l = c.before.before in omega (arith, l.loop-i.invariant.1, (start l).requires.1)
 
-slice-write-out : tie.Need-slice-write-out invariant-loop decreases-loop
+slice-write-out : tie.Need-bounds-out-i invariant-loop decreases-loop
 slice-write-out c = search rules
 
-add-get : tie.Need-overflow-add-get invariant-loop decreases-loop
-add-get c = let l = c.before.before in omega (arith, l.loop.invariant.1, l.loop.invariant.2, (start l).requires.1)
+add-get : tie.Need-overflow_add-at invariant-loop decreases-loop
+add-get c = let l = c.before.before in omega (arith, l.loop-i.invariant.1, l.loop-i.invariant.2, (start l).requires.1)
 
-get-requires-2 : tie.Need-get-requires-2 invariant-loop decreases-loop
-get-requires-2 c κs = let l = c.before.before in omega (arith, l.loop.invariant.1, l.loop.invariant.2, (start l).requires.0)
+get-requires-2 : tie.Need-get-requires-in-loop-i invariant-loop decreases-loop
+get-requires-2 c κs = let l = c.before.before in omega (arith, l.loop-i.invariant.1, l.loop-i.invariant.2, (start l).requires.0)
 
-add-out : tie.Need-overflow-add-out invariant-loop decreases-loop
-add-out c = let l = c.before.before.before in omega (arith, l.loop.invariant.1, (start l).requires.1)
+add-out : tie.Need-overflow_add-out invariant-loop decreases-loop
+add-out c = let l = c.before.before.before in omega (arith, l.loop-i.invariant.1, (start l).requires.1)
 
-mul-out-2 : tie.Need-overflow-mul-out-2 invariant-loop decreases-loop
-mul-out-2 c = let l = c.before.before.before in omega (arith, l.loop.invariant.1, (start l).requires.1)
+mul-out-2 : tie.Need-offset_bounds-out-i-in-loop-i invariant-loop decreases-loop
+mul-out-2 c = let l = c.before.before.before in omega (arith, l.loop-i.invariant.1, (start l).requires.1)
 
-slice-write-out-2 : tie.Need-slice-write-out-2 invariant-loop decreases-loop
+slice-write-out-2 : tie.Need-bounds-out-i-in-loop-i invariant-loop decreases-loop
 slice-write-out-2 c = simp length-set (omega arith)
 
-add_at : tie.Need-overflow-add-at invariant-loop decreases-loop
+add_at : tie.Need-overflow_add-at-in-loop-i invariant-loop decreases-loop
 add_at c = omega arith
 
-add-at-2 : tie.Need-overflow-add-at-2 invariant-loop decreases-loop
-add-at-2 c = let l = c.before.before.before in omega (arith, l.loop.invariant.1, l.loop.invariant.2, (start l).requires.1)
+add-at-2 : tie.Need-overflow_add-at-in-loop-i-2 invariant-loop decreases-loop
+add-at-2 c = let l = c.before.before.before in omega (arith, l.loop-i.invariant.1, l.loop-i.invariant.2, (start l).requires.1)
 
-add-i : tie.Need-overflow-add-i invariant-loop decreases-loop
-add-i c = let l = c.before.before.before in omega (arith, l.loop.invariant.1, (start l).requires.1)
+add-i : tie.Need-overflow_add-i-in-loop-i invariant-loop decreases-loop
+add-i c = let l = c.before.before.before in omega (arith, l.loop-i.invariant.1, (start l).requires.1)
 
-loop-less : tie.Need-loop-smaller invariant-loop decreases-loop
+loop-less : tie.Need-loop-i-smaller invariant-loop decreases-loop
 loop-less c = simp (length-set, length-set) (omega arith)
 
-loop-again : tie.Need-loop-preserved invariant-loop decreases-loop
+loop-again : tie.Need-loop-i-preserved invariant-loop decreases-loop
 loop-again c =
     let first = c.before in
     let l = first.before.before in
-    let i = l.loop.invariant in
-    let out = l.loop.out in
-    let one : List ℕ = set out l.loop.i first.get.result in
-    let two : List ℕ = set one (l.loop.i + 1) c.get2.result in
-    let len : length one ≡ length out = length-set out l.loop.i _ in
-    let len-two : length two ≡ length one = length-set one (l.loop.i + 1) _ in
-    let inside : l.loop.i + 1 < length out = omega arith in (
+    let i = l.loop-i.invariant in
+    let out = l.loop-i.out in
+    let one : List ℕ = set out l.loop-i.i first.get.result in
+    let two : List ℕ = set one (l.loop-i.i + 1) c.get-in-loop-i.result in
+    let len : length one ≡ length out = length-set out l.loop-i.i _ in
+    let len-two : length two ≡ length one = length-set one (l.loop-i.i + 1) _ in
+    let inside : l.loop-i.i + 1 < length out = omega arith in (
       omega (arith, len-two, len, inside),
       omega (arith, len-two, len, i.1),
       omega (arith, i.2),
-      two_more l.loop.i two (symbols_of (symbol_size wide32) (start l).args.bytes.now)
-          (more l one (l.loop.i + 1) _ (l.loop.at + symbol_size wide32) (omega (arith, len, i.1)) (omega (arith, len, inside))
-          (more l out l.loop.i _ _ i.1 (omega (arith, inside)) i.3 i.2 first.get.ensures) (omega (arith, i.2)) c.get2.ensures),
+      two_more l.loop-i.i two (symbols_of (symbol_size wide32) (start l).args.bytes.now)
+          (more l one (l.loop-i.i + 1) _ (l.loop-i.at + symbol_size wide32) (omega (arith, len, i.1)) (omega (arith, len, inside))
+          (more l out l.loop-i.i _ _ i.1 (omega (arith, inside)) i.3 i.2 first.get.ensures) (omega (arith, i.2)) c.get-in-loop-i.ensures),
     )
 
-same_length : tie.Need-same-length invariant-loop decreases-loop
-same_length c = c.before.before.loop.invariant.1
+same_length : tie.Need-shape_of-out-then-out-i invariant-loop decreases-loop
+same_length c = c.before.before.loop-i.invariant.1
 
-returns : tie.Need-returns invariant-loop decreases-loop
-returns c = let l = c.before.before in whole l l.loop.out l.loop.i l.loop.invariant.1 (omega (arith, c.if1.true)) l.loop.invariant.3
+returns : tie.Need-returns-then-out-i invariant-loop decreases-loop
+returns c = let l = c.before.before in whole l l.loop-i.out l.loop-i.i l.loop-i.invariant.1 (omega (arith, c.if-out-i.true)) l.loop-i.invariant.3
 
-get-requires-3 : tie.Need-get-requires-3 invariant-loop decreases-loop
-get-requires-3 c κs = let l = c.before.before in omega (arith, c.if1.false, l.loop.invariant.1, l.loop.invariant.2, (start l).requires.0)
+get-requires-3 : tie.Need-get-requires-2 invariant-loop decreases-loop
+get-requires-3 c κs = let l = c.before.before in omega (arith, c.if-out-i.false, l.loop-i.invariant.1, l.loop-i.invariant.2, (start l).requires.0)
 
-mul-out-3 : tie.Need-overflow-mul-out-3 invariant-loop decreases-loop
-mul-out-3 c = let l = c.before.before.before in omega (arith, l.loop.invariant.0, l.loop.invariant.1, (start l).requires.1)
+mul-out-3 : tie.Need-offset_bounds-out-i-2 invariant-loop decreases-loop
+mul-out-3 c = let l = c.before.before.before in omega (arith, l.loop-i.invariant.0, l.loop-i.invariant.1, (start l).requires.1)
 
-slice-write-out-3 : tie.Need-slice-write-out-3 invariant-loop decreases-loop
-slice-write-out-3 c = omega (arith, c.before.if1.false)
+slice-write-out-3 : tie.Need-bounds-out-i-2 invariant-loop decreases-loop
+slice-write-out-3 c = omega (arith, c.before.if-out-i.false)
 
-same-length-2 : tie.Need-same-length-2 invariant-loop decreases-loop
-same-length-2 c = let l = c.before.before.before in simp length-set l.loop.invariant.1
+same-length-2 : tie.Need-shape_of-out invariant-loop decreases-loop
+same-length-2 c = let l = c.before.before.before in simp length-set l.loop-i.invariant.1
 
-returns-2 : tie.Need-returns-2 invariant-loop decreases-loop
+returns-2 : tie.Need-returns invariant-loop decreases-loop
 returns-2 c =
     let l = c.before.before.before in
-    let i = l.loop.invariant in
-    let out = l.loop.out in
-    let last : List ℕ = set out l.loop.i c.get3.result in
-    let len : length last ≡ length out = length-set out l.loop.i _ in
-    whole l last (l.loop.i + 1) (len ∙ i.1) (omega (arith, len))
-    (more l out l.loop.i _ _ i.1 (omega (arith, c.before.if1.false)) i.3 i.2 c.get3.ensures)
+    let i = l.loop-i.invariant in
+    let out = l.loop-i.out in
+    let last : List ℕ = set out l.loop-i.i c.get-2.result in
+    let len : length last ≡ length out = length-set out l.loop-i.i _ in
+    whole l last (l.loop-i.i + 1) (len ∙ i.1) (omega (arith, len))
+    (more l out l.loop-i.i _ _ i.1 (omega (arith, c.before.if-out-i.false)) i.3 i.2 c.get-2.ensures)
 
-pub read-symbols-spec : {M : Type 1} → statement M
-read-symbols-spec =
+pub read_symbols_spec : {M : Type 1} → statement M
+read_symbols_spec =
     tie.close
     (tie.spec
     invariant-loop

@@ -11,7 +11,7 @@ use Rattle.symbol_bytes32.specs.Turns.{two_more, bytes_more, bytes_all}
 use Rattle.symbol_bytes32.proofs.write_symbols.Statement.{statement}
 use Rattle.symbol_bytes32.proofs.write_symbols.Tie as tie
 
-abbrev invariant-loop : tie.invariant-loop
+abbrev invariant-loop : tie.invariant-loop-i
 invariant-loop bytes₀ symbols at₀ i₀ bytes at i =
     (i ≤ length symbols)
     × (length bytes ≡ length bytes₀)
@@ -19,122 +19,122 @@ invariant-loop bytes₀ symbols at₀ i₀ bytes at i =
     × (take i (symbols_of (symbol_size wide32) bytes) ≡ take i symbols)
     × Below 256 bytes
 
-abbrev decreases-loop : tie.decreases-loop
+abbrev decreases-loop : tie.decreases-loop-i
 decreases-loop bytes₀ symbols at₀ i₀ bytes at i = length symbols - i
 
 -- the start, seen from the loop
-abbrev start : tie.At-loop invariant-loop decreases-loop → tie.Start invariant-loop decreases-loop
+abbrev start : tie.At-loop-i invariant-loop decreases-loop → tie.Start invariant-loop decreases-loop
 start l = l.before.before.before
 
-loop-holds : tie.Need-loop-init invariant-loop decreases-loop
-loop-holds c = (omega arith, refl, omega arith, refl, λ j. omega (arith, c.before.slice-known.given j))
+loop-holds : tie.Need-loop-i-init invariant-loop decreases-loop
+loop-holds c = (omega arith, refl, omega arith, refl, λ j. omega (arith, c.before.slice_known-1.given j))
 
-add-loop : tie.Need-overflow-add-loop invariant-loop decreases-loop
-add-loop c = omega (arith, c.loop.invariant.0, (start c).requires.1)
+add-loop : tie.Need-overflow_add-i invariant-loop decreases-loop
+add-loop c = omega (arith, c.loop-i.invariant.0, (start c).requires.1)
 
-mul-put : tie.Need-overflow-mul-put invariant-loop decreases-loop
+mul-put : tie.Need-offset_bounds-symbols-i invariant-loop decreases-loop
 mul-put c = let l = c.before.before in omega (arith, (start l).requires.1)
 
-shared-slice-read-put : tie.Need-shared-slice-read-put invariant-loop decreases-loop
+shared-slice-read-put : tie.Need-bounds-symbols-i invariant-loop decreases-loop
 shared-slice-read-put c = search rules
 
 put-requires : tie.Need-put-requires invariant-loop decreases-loop
-put-requires c κs = let l = c.before.before.before in omega (arith, l.loop.invariant.1, l.loop.invariant.2, (start l).requires.0)
+put-requires c κs = let l = c.before.before.before in omega (arith, l.loop-i.invariant.1, l.loop-i.invariant.2, (start l).requires.0)
 
-add-put : tie.Need-overflow-add-put invariant-loop decreases-loop
-add-put c = let l = c.before.before.before.before.before.before.before in omega (arith, l.loop.invariant.2, (start l).requires.1)
+add-put : tie.Need-overflow_add-at invariant-loop decreases-loop
+add-put c = let l = c.before.before.before.before.before.before.before in omega (arith, l.loop-i.invariant.2, (start l).requires.1)
 
-add-put-2 : tie.Need-overflow-add-put-2 invariant-loop decreases-loop
+add-put-2 : tie.Need-overflow_add-i-in-loop-i invariant-loop decreases-loop
 add-put-2 c = let l = c.before.before.before.before.before.before.before in omega (arith, (start l).requires.1)
 
-mul-put-2 : tie.Need-overflow-mul-put-2 invariant-loop decreases-loop
+mul-put-2 : tie.Need-offset_bounds-symbols-i-in-loop-i invariant-loop decreases-loop
 mul-put-2 c = let l = c.before.before.before.before.before.before.before in omega (arith, (start l).requires.1)
 
-shared-slice-read-put-2 : tie.Need-shared-slice-read-put-2 invariant-loop decreases-loop
+shared-slice-read-put-2 : tie.Need-bounds-symbols-i-in-loop-i invariant-loop decreases-loop
 shared-slice-read-put-2 c = search rules
 
-put-requires-2 : tie.Need-put-requires-2 invariant-loop decreases-loop
+put-requires-2 : tie.Need-put-requires-in-loop-i invariant-loop decreases-loop
 put-requires-2 c κs =
     let wrote = c.before.before.before in
     let l = wrote.before.before.before.before.before in
-    omega (arith, wrote.bytes.given, l.loop.invariant.1, l.loop.invariant.2, (start l).requires.0)
+    omega (arith, wrote.bytes-1.given, l.loop-i.invariant.1, l.loop-i.invariant.2, (start l).requires.0)
 
-add_at : tie.Need-overflow-add-at invariant-loop decreases-loop
+add_at : tie.Need-overflow_add-at-in-loop-i invariant-loop decreases-loop
 add_at c = omega arith
 
-add-at-2 : tie.Need-overflow-add-at-2 invariant-loop decreases-loop
-add-at-2 c = let l = c.before.before.before.before.before.before.before.before.before.before.before in omega (arith, l.loop.invariant.2, (start l).requires.1)
+add-at-2 : tie.Need-overflow_add-at-in-loop-i-2 invariant-loop decreases-loop
+add-at-2 c = let l = c.before.before.before.before.before.before.before.before.before.before.before in omega (arith, l.loop-i.invariant.2, (start l).requires.1)
 
-add-i : tie.Need-overflow-add-i invariant-loop decreases-loop
+add-i : tie.Need-overflow_add-i-in-loop-i-2 invariant-loop decreases-loop
 add-i c = let l = c.before.before.before.before.before.before.before.before.before.before.before in omega (arith, (start l).requires.1)
 
-loop-less : tie.Need-loop-smaller invariant-loop decreases-loop
+loop-less : tie.Need-loop-i-smaller invariant-loop decreases-loop
 loop-less c = omega arith
 
-loop-again : tie.Need-loop-preserved invariant-loop decreases-loop
+loop-again : tie.Need-loop-i-preserved invariant-loop decreases-loop
 loop-again c =
     let second = c.before.before in
     let wrote = second.before.before.before.before in
     let first = wrote.before in
     let l = first.before.before.before.before in
-    let i = l.loop.invariant in
+    let i = l.loop-i.invariant in
     let b = start l in
     let symbols = b.args.symbols.now in
-    let size : length l.loop.bytes ≡ length symbols * symbol_size wide32 = i.1 ∙ b.pre.0 in
-    let inside : l.loop.i + 1 < length symbols = omega arith in (
+    let size : length l.loop-i.bytes ≡ length symbols * symbol_size wide32 = i.1 ∙ b.requires.0 in
+    let inside : l.loop-i.i + 1 < length symbols = omega arith in (
       omega arith,
-      omega (arith, c.before.bytes2.given, wrote.bytes.given, i.1),
+      omega (arith, c.before.bytes-in-loop-i-1.given, wrote.bytes-1.given, i.1),
       omega (arith, i.2),
-      two_more l.loop.i _ symbols
-          (bytes_more (symbol_size wide32) (omega arith) symbols _ (omega (arith, wrote.bytes.given, size)) (l.loop.i + 1)
-          (bytes_more (symbol_size wide32) (omega arith) symbols l.loop.bytes size l.loop.i i.3 (omega (arith, inside))
-          (omega (arith, first.before.shared-slice-known2.given l.loop.i)) _ l.loop.at i.2 first.put.ensures)
-          inside (omega (arith, second.before.shared-slice-known3.given (l.loop.i + 1))) _ (l.loop.at + symbol_size wide32) (omega (arith, i.2)) second.put2.ensures),
-      λ j. omega (arith, c.slice-known3.given j),
+      two_more l.loop-i.i _ symbols
+          (bytes_more (symbol_size wide32) (omega arith) symbols _ (omega (arith, wrote.bytes-1.given, size)) (l.loop-i.i + 1)
+          (bytes_more (symbol_size wide32) (omega arith) symbols l.loop-i.bytes size l.loop-i.i i.3 (omega (arith, inside))
+          (omega (arith, first.before.shared_slice_known-in-loop-i-1.given l.loop-i.i)) _ l.loop-i.at i.2 first.put.ensures)
+          inside (omega (arith, second.before.shared_slice_known-in-loop-i-2-1.given (l.loop-i.i + 1))) _ (l.loop-i.at + symbol_size wide32) (omega (arith, i.2)) second.put-in-loop-i.ensures),
+      λ j. omega (arith, c.slice_known-in-loop-i-2-1.given j),
     )
 
-same_length : tie.Need-same-length invariant-loop decreases-loop
-same_length c = c.before.before.loop.invariant.1
+same_length : tie.Need-shape_of-bytes-then-symbols-i invariant-loop decreases-loop
+same_length c = c.before.before.loop-i.invariant.1
 
-returns : tie.Need-returns invariant-loop decreases-loop
+returns : tie.Need-returns-then-symbols-i invariant-loop decreases-loop
 returns c =
     let l = c.before.before in
-    let i = l.loop.invariant in
+    let i = l.loop-i.invariant in
     let b = start l in
-    bytes_all (symbol_size wide32) (omega arith) b.args.symbols.now l.loop.bytes (i.1 ∙ b.pre.0) l.loop.i i.3 (omega (arith, c.if1.true)) i.4
+    bytes_all (symbol_size wide32) (omega arith) b.args.symbols.now l.loop-i.bytes (i.1 ∙ b.requires.0) l.loop-i.i i.3 (omega (arith, c.if-symbols-i.true)) i.4
 
-mul-put-3 : tie.Need-overflow-mul-put-3 invariant-loop decreases-loop
-mul-put-3 c = let l = c.before.before.before in omega (arith, l.loop.invariant.0, (start l).requires.1)
+mul-put-3 : tie.Need-offset_bounds-symbols-i-2 invariant-loop decreases-loop
+mul-put-3 c = let l = c.before.before.before in omega (arith, l.loop-i.invariant.0, (start l).requires.1)
 
-shared-slice-read-put-3 : tie.Need-shared-slice-read-put-3 invariant-loop decreases-loop
-shared-slice-read-put-3 c = omega (arith, c.before.before.if1.false)
+shared-slice-read-put-3 : tie.Need-bounds-symbols-i-2 invariant-loop decreases-loop
+shared-slice-read-put-3 c = omega (arith, c.before.before.if-symbols-i.false)
 
-put-requires-3 : tie.Need-put-requires-3 invariant-loop decreases-loop
+put-requires-3 : tie.Need-put-requires-2 invariant-loop decreases-loop
 put-requires-3 c κs =
     let e = c.before.before in
     let l = e.before.before in
-    omega (arith, e.if1.false, l.loop.invariant.1, l.loop.invariant.2, (start l).requires.0)
+    omega (arith, e.if-symbols-i.false, l.loop-i.invariant.1, l.loop-i.invariant.2, (start l).requires.0)
 
-same-length-2 : tie.Need-same-length-2 invariant-loop decreases-loop
+same-length-2 : tie.Need-shape_of-bytes invariant-loop decreases-loop
 same-length-2 c = search rules
 
-returns-2 : tie.Need-returns-2 invariant-loop decreases-loop
+returns-2 : tie.Need-returns invariant-loop decreases-loop
 returns-2 c =
     let wrote = c.before in
     let put = wrote.before in
     let e = put.before.before.before in
     let l = e.before.before in
-    let i = l.loop.invariant in
+    let i = l.loop-i.invariant in
     let b = start l in
     let symbols = b.args.symbols.now in
-    let size : length l.loop.bytes ≡ length symbols * symbol_size wide32 = i.1 ∙ b.pre.0 in
-    bytes_all (symbol_size wide32) (omega arith) symbols _ (omega (arith, wrote.bytes3.given, size)) (l.loop.i + 1)
-    (bytes_more (symbol_size wide32) (omega arith) symbols l.loop.bytes size l.loop.i i.3 (omega (arith, e.if1.false))
-    (omega (arith, put.before.shared-slice-known4.given l.loop.i)) _ l.loop.at i.2 put.put3.ensures)
-    (omega arith) (λ j. omega (arith, c.slice-known4.given j))
+    let size : length l.loop-i.bytes ≡ length symbols * symbol_size wide32 = i.1 ∙ b.requires.0 in
+    bytes_all (symbol_size wide32) (omega arith) symbols _ (omega (arith, wrote.bytes-2-1.given, size)) (l.loop-i.i + 1)
+    (bytes_more (symbol_size wide32) (omega arith) symbols l.loop-i.bytes size l.loop-i.i i.3 (omega (arith, e.if-symbols-i.false))
+    (omega (arith, put.before.shared_slice_known-2-1.given l.loop-i.i)) _ l.loop-i.at i.2 put.put-2.ensures)
+    (omega arith) (λ j. omega (arith, c.slice_known-2-1.given j))
 
-pub write-symbols-spec : {M : Type 1} → statement M
-write-symbols-spec =
+pub write_symbols_spec : {M : Type 1} → statement M
+write_symbols_spec =
     tie.close
     (tie.spec
     invariant-loop

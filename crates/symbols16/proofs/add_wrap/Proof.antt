@@ -4,12 +4,12 @@ use Rattle.std.proofs.Common.{rules}
 use Rattle.symbols16.proofs.add_wrap.Statement.{statement}
 use Rattle.symbols16.proofs.add_wrap.Tie as tie
 
-wrapping-add-u16-requires : tie.Need-wrapping-add-u16-requires
+wrapping-add-u16-requires : tie.Need-wrapping_add_u16-requires
 wrapping-add-u16-requires c κs = search rules
 
 returns : tie.Need-returns
 unfolding add
 returns c = search rules
 
-pub add-wrap-spec : {M : Type 1} → statement M
-add-wrap-spec = tie.close (tie.spec wrapping-add-u16-requires returns)
+pub add_wrap_spec : {M : Type 1} → statement M
+add_wrap_spec = tie.close (tie.spec wrapping-add-u16-requires returns)

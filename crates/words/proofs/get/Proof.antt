@@ -5,25 +5,25 @@ use Rattle.words.specs.Four.{four-at}
 use Rattle.words.proofs.get.Statement.{statement}
 use Rattle.words.proofs.get.Tie as tie
 
-shared-slice-read-joined : tie.Need-shared-slice-read-joined
+shared-slice-read-joined : tie.Need-bounds-bytes-at
 shared-slice-read-joined c = search rules
 
-add-joined : tie.Need-overflow-add-joined
+add-joined : tie.Need-overflow_add-at
 add-joined c = search rules
 
-shared-slice-read-joined-2 : tie.Need-shared-slice-read-joined-2
+shared-slice-read-joined-2 : tie.Need-bounds-bytes-at-2
 shared-slice-read-joined-2 c = search rules
 
-add-joined-2 : tie.Need-overflow-add-joined-2
+add-joined-2 : tie.Need-overflow_add-at-2
 add-joined-2 c = search rules
 
-shared-slice-read-joined-3 : tie.Need-shared-slice-read-joined-3
+shared-slice-read-joined-3 : tie.Need-bounds-bytes-at-3
 shared-slice-read-joined-3 c = search rules
 
-add-joined-3 : tie.Need-overflow-add-joined-3
+add-joined-3 : tie.Need-overflow_add-at-3
 add-joined-3 c = search rules
 
-shared-slice-read-joined-4 : tie.Need-shared-slice-read-joined-4
+shared-slice-read-joined-4 : tie.Need-bounds-bytes-at-4
 shared-slice-read-joined-4 c = search rules
 
 joined-requires : tie.Need-joined-requires
