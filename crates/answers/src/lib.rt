@@ -1,5 +1,6 @@
 // The tests of the calls, walked in order: those of a call that reads symbols, of thresholds and of blocks. Whether the lengths fit is told by the caller.
 #![tactic(auto)]
+
 ghost use Rattle.std.specs.Prelude.{◌≡◌, List, ◌++◌, ℕ, ◌*◌, ◌≤◌};
 ghost use Rattle.model.specs.Decoder.{state_by};
 ghost use Rattle.model.specs.Calls.{all_below, first_that_applies, page_tests, threshold_tests, block_test, decode_answer, pass_answer, explain_answer};

@@ -1,5 +1,6 @@
 // The vote with one counter for each symbol value, on 256 lent counters.
 #![tactic(auto)]
+
 ghost use Rattle.std.specs.Prelude.{◌≡◌, ◌<◌, ◌≤◌, length, get_or};
 ghost use Rattle.model.specs.Vote.{first_by, other_by, votes_read, zero_counters, counted};
 ghost use Rattle.vote.specs.Leading.{lead_by, vote_of};

@@ -1,5 +1,6 @@
 // The reader of a file of pages: a page is found by its place in the contents, and its body is handed out as a part of the file.
 #![tactic(auto)]
+
 ghost use Rattle.std.specs.Prelude.{◌≡◌, true, ◌+◌, ◌≤◌, length, take, drop};
 ghost use Rattle.model.specs.Files.{contents_end, entries_from, sizes_of, total, symbols_fit, read_answer, read_outcome, read_body};
 ghost use Rattle.file_reader.specs.Turns.{end_from};

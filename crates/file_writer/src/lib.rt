@@ -1,5 +1,6 @@
 // The writer of a file of pages.
 #![tactic(auto)]
+
 ghost use Rattle.std.specs.Prelude.{◌≡◌, ◌+◌, ◌≤◌, length};
 ghost use Rattle.std.proofs.lemmas.List.Edits.{sets};
 ghost use Rattle.model.specs.Files.{contents_end, contents_of, listing, listed_from, total, write_outcome};

@@ -1,5 +1,6 @@
 // The way on to the next data symbol whose visit the zeros at its checks do not settle: one by one, and by blocks.
 #![tactic(auto)]
+
 ghost use Rattle.std.specs.Prelude.{◌≡◌, true, false, ℕ, ◌+◌, ◌<◌, ◌≤◌, leb, length, get_or};
 ghost use Rattle.model.specs.Symbols.{same};
 ghost use Rattle.open_symbols.specs.Settled.{Open, Settled, Settling, Past, FirstOpen, OpenFrom};

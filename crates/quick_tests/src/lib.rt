@@ -1,5 +1,6 @@
 // A quick test before the vote at a data symbol.
 #![tactic(auto)]
+
 ghost use Rattle.std.specs.Prelude.{◌≡◌, true, false, ◌<◌, ◌≤◌, ltb, length, get_or};
 ghost use Rattle.model.specs.Vote.{lead_count};
 ghost use Rattle.checks.specs.Checks.{AtChecks, estimates_by};

@@ -1,5 +1,6 @@
 // Symbols of four bytes, q = 4,294,967,296: sums and differences wrap at the symbol's width. One by one and in whole slices.
 #![tactic(auto)]
+
 ghost use Rattle.std.specs.Prelude.{◌≡◌, ◌<◌, ◌≤◌, length, slice_index};
 ghost use Rattle.model.specs.Symbols.{add, sub, same, differ, weight, tabulate, add_each, sub_each};
 

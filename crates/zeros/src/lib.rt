@@ -1,5 +1,6 @@
 // The zeros of the syndrome at the checks of every data symbol, counted in straight runs.
 #![tactic(auto)]
+
 ghost use Rattle.std.specs.Prelude.{◌≡◌, ◌<◌, length};
 ghost use Rattle.model.specs.Code.{data_count};
 ghost use Rattle.model.specs.Symbols.{Below, tabulate};

@@ -13,10 +13,10 @@ use Rattle.model.specs.Calls.{all_below}
 use Rattle.answers.proofs.all_small.Statement.{statement}
 use Rattle.answers.proofs.all_small.Tie as tie
 
-abbrev invariant-loop : tie.invariant-loop
+abbrev invariant-loop : tie.invariant-loop-i
 invariant-loop thresholds i₀ i = (i ≤ length thresholds) × (all_below 33 (drop i thresholds) ≡ all_below 33 thresholds)
 
-abbrev decreases-loop : tie.decreases-loop
+abbrev decreases-loop : tie.decreases-loop-i
 decreases-loop thresholds i₀ i = length thresholds - i
 
 -- where the test of threshold i is b
@@ -24,36 +24,36 @@ tested : (ts : List ℕ) (i : ℕ) (b : Bool) → i < length ts → ltb (get_or 
 unfolding all_below
 tested ts i b h e = ap (all_below 33) (drop-cons ts i 0 h) ∙ rw (e, add-one i) refl
 
-loop-holds : tie.Need-loop-init invariant-loop decreases-loop
+loop-holds : tie.Need-loop-i-init invariant-loop decreases-loop
 loop-holds c = (omega arith, refl)
 
-shared-slice-read-if1 : tie.Need-shared-slice-read-if1 invariant-loop decreases-loop
+shared-slice-read-if1 : tie.Need-bounds-thresholds-i invariant-loop decreases-loop
 shared-slice-read-if1 c = omega arith
 
-returns : tie.Need-returns invariant-loop decreases-loop
+returns : tie.Need-returns-then-thresholds-i-gt32 invariant-loop decreases-loop
 returns c =
     let l = c.before.before.before in
-    sym (tested l.before.args.thresholds.now l.loop.i false (omega arith) (le-ltb (get_or l.before.args.thresholds.now l.loop.i 0) 33 (omega arith))) ∙ l.loop.invariant.1
+    sym (tested l.before.args.thresholds.now l.loop-i.i false (omega arith) (le-ltb (get_or l.before.args.thresholds.now l.loop-i.i 0) 33 (omega arith))) ∙ l.loop-i.invariant.1
 
-add-i : tie.Need-overflow-add-i invariant-loop decreases-loop
+add-i : tie.Need-overflow_add-i invariant-loop decreases-loop
 add-i c = omega arith
 
-loop-less : tie.Need-loop-smaller invariant-loop decreases-loop
+loop-less : tie.Need-loop-i-smaller invariant-loop decreases-loop
 loop-less c = omega arith
 
-loop-again : tie.Need-loop-preserved invariant-loop decreases-loop
+loop-again : tie.Need-loop-i-preserved invariant-loop decreases-loop
 loop-again c =
     let l = c.before.before.before in
-    (omega arith, sym (tested l.before.args.thresholds.now l.loop.i true (omega arith) (lt-ltb (get_or l.before.args.thresholds.now l.loop.i 0) 33 (omega arith))) ∙ l.loop.invariant.1)
+    (omega arith, sym (tested l.before.args.thresholds.now l.loop-i.i true (omega arith) (lt-ltb (get_or l.before.args.thresholds.now l.loop-i.i 0) 33 (omega arith))) ∙ l.loop-i.invariant.1)
 
-returns-2 : tie.Need-returns-2 invariant-loop decreases-loop
+returns-2 : tie.Need-returns invariant-loop decreases-loop
 unfolding all_below
 returns-2 c =
     let l = c.before in
-    sym (ap (all_below 33) (drop_of_length-le l.before.args.thresholds.now {i = l.loop.i} (omega arith))) ∙ l.loop.invariant.1
+    sym (ap (all_below 33) (drop_of_length-le l.before.args.thresholds.now {i = l.loop-i.i} (omega arith))) ∙ l.loop-i.invariant.1
 
-pub all-small-spec : {M : Type 1} → statement M
-all-small-spec =
+pub all_small_spec : {M : Type 1} → statement M
+all_small_spec =
     tie.close
     (tie.spec
     invariant-loop

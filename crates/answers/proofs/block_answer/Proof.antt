@@ -11,13 +11,13 @@ use Rattle.theory.specs.Answers.{refused_by, passed_by, nothing_applies}
 use Rattle.answers.proofs.block_answer.Statement.{statement}
 use Rattle.answers.proofs.block_answer.Tie as tie
 
-returns : tie.Need-returns
+returns : tie.Need-returns-then-block-lt2
 unfolding block_test
 returns c =
     let a = c.before.args in
-    λ ps. sym (refused_by 12 (leb 2 a.block && eqb (a.code.b * a.code.k % a.block) 0) _ (rw (lt-leb 2 a.block (omega (arith, c.if1.true))) refl))
+    λ ps. sym (refused_by 12 (leb 2 a.block && eqb (a.code.b * a.code.k % a.block) 0) _ (rw (lt-leb 2 a.block (omega (arith, c.if-block-lt2.true))) refl))
 
-data-count-requires : tie.Need-data-count-requires
+data-count-requires : tie.Need-data_count-requires
 data-count-requires c κs = search rules
 
 divides-requires : tie.Need-divides-requires
@@ -30,16 +30,16 @@ fit : (p : tie.After-divides)
 fit p =
     let one = p.before.before in
     let a = one.before.args in
-    rw (le-leb 2 a.block (omega (arith, one.if1.false)))
-    (sym (p.divides.ensures ∙ ap (λ (n : ℕ). eqb (n % a.block) 0) p.before.data-count.ensures))
+    rw (le-leb 2 a.block (omega (arith, one.if-block-lt2.false)))
+    (sym (p.divides.ensures ∙ ap (λ (n : ℕ). eqb (n % a.block) 0) p.before.data_count.ensures))
 
-returns-2 : tie.Need-returns-2
+returns-2 : tie.Need-returns-then-not-divides
 unfolding block_test
-returns-2 c = λ ps. sym (refused_by 12 _ _ (fit c.before ∙ not-true _ c.if2.true))
+returns-2 c = λ ps. sym (refused_by 12 _ _ (fit c.before ∙ c.if-not-divides.true))
 
-returns-3 : tie.Need-returns-3
+returns-3 : tie.Need-returns
 unfolding block_test
-returns-3 c = λ ps. sym (passed_by 12 _ _ (fit c.before ∙ not-false _ c.if2.false) ∙ nothing_applies)
+returns-3 c = λ ps. sym (passed_by 12 _ _ (fit c.before ∙ c.if-not-divides.false) ∙ nothing_applies)
 
-pub block-answer-spec : {M : Type 1} → statement M
-block-answer-spec = tie.close (tie.spec returns data-count-requires divides-requires returns-2 returns-3)
+pub block_answer_spec : {M : Type 1} → statement M
+block_answer_spec = tie.close (tie.spec returns data-count-requires divides-requires returns-2 returns-3)

@@ -5,19 +5,19 @@ use Rattle.theory.specs.Answers.{decode_refused, decode_passed}
 use Rattle.answers.proofs.decode_answer.Statement.{statement}
 use Rattle.answers.proofs.decode_answer.Tie as tie
 
-page-answer-requires : tie.Need-page-answer-requires
+page-answer-requires : tie.Need-page_answer-number-requires
 page-answer-requires c κs = search rules
 
-returns : tie.Need-returns
-returns c = let e = c.before.page-answer.ensures in e ∙ sym (decode_refused _ _ _ _ (λ z. c.if1.true (e ∙ z)))
+returns : tie.Need-returns-then-number-ne0
+returns c = let e = c.before.page_answer-number.ensures in e ∙ sym (decode_refused _ _ _ _ (λ z. c.if-number-ne0.true (e ∙ z)))
 
-threshold-answer-requires : tie.Need-threshold-answer-requires
+threshold-answer-requires : tie.Need-threshold_answer-requires
 threshold-answer-requires c κs = search rules
 
-returns-2 : tie.Need-returns-2
+returns-2 : tie.Need-returns
 returns-2 c =
     let one = c.before in
-    c.threshold-answer.ensures ∙ sym (decode_passed _ _ _ _ (sym one.before.page-answer.ensures ∙ one.if1.false))
+    c.threshold_answer.ensures ∙ sym (decode_passed _ _ _ _ (sym one.before.page_answer-number.ensures ∙ one.if-number-ne0.false))
 
-pub decode-answer-spec : {M : Type 1} → statement M
-decode-answer-spec = tie.close (tie.spec page-answer-requires returns threshold-answer-requires returns-2)
+pub decode_answer_spec : {M : Type 1} → statement M
+decode_answer_spec = tie.close (tie.spec page-answer-requires returns threshold-answer-requires returns-2)

@@ -10,27 +10,27 @@ use Rattle.answers.proofs.threshold_answer.Tie as tie
 within-requires : tie.Need-within-requires
 within-requires c κs = search rules
 
-returns : tie.Need-returns
+returns : tie.Need-returns-then-not-within
 unfolding threshold_tests
-returns c = sym (refused_by 8 _ _ (sym c.before.within.ensures ∙ not-true _ c.if1.true))
+returns c = sym (refused_by 8 _ _ (sym c.before.within.ensures ∙ c.if-not-within.true))
 
-all-small-requires : tie.Need-all-small-requires
+all-small-requires : tie.Need-all_small-requires
 all-small-requires c κs = search rules
 
-returns-2 : tie.Need-returns-2
+returns-2 : tie.Need-returns-then-not-all_small
 unfolding threshold_tests
 returns-2 c =
     let one = c.before.before in
-    sym (passed_by 8 _ _ (sym one.before.within.ensures ∙ not-false _ one.if1.false)
-    ∙ refused_by 9 _ _ (sym c.before.all_small.ensures ∙ not-true _ c.if2.true))
+    sym (passed_by 8 _ _ (sym one.before.within.ensures ∙ one.if-not-within.false)
+    ∙ refused_by 9 _ _ (sym c.before.all_small.ensures ∙ c.if-not-all_small.true))
 
-returns-3 : tie.Need-returns-3
+returns-3 : tie.Need-returns
 unfolding threshold_tests
 returns-3 c =
     let one = c.before.before in
-    sym (passed_by 8 _ _ (sym one.before.within.ensures ∙ not-false _ one.if1.false)
-    ∙ passed_by 9 _ _ (sym c.before.all_small.ensures ∙ not-false _ c.if2.false)
+    sym (passed_by 8 _ _ (sym one.before.within.ensures ∙ one.if-not-within.false)
+    ∙ passed_by 9 _ _ (sym c.before.all_small.ensures ∙ c.if-not-all_small.false)
     ∙ nothing_applies)
 
-pub threshold-answer-spec : {M : Type 1} → statement M
-threshold-answer-spec = tie.close (tie.spec within-requires returns all-small-requires returns-2 returns-3)
+pub threshold_answer_spec : {M : Type 1} → statement M
+threshold_answer_spec = tie.close (tie.spec within-requires returns all-small-requires returns-2 returns-3)

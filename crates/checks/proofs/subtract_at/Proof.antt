@@ -45,7 +45,9 @@ sub-mod-requires c κs =
     omega (arith, low c.before.check_of-c.result)
 
 slice-write-s : tie.Need-bounds-s-c-in-loop-i invariant-loop decreases-loop
-slice-write-s c = slice-read-sub-mod c.before
+slice-write-s c =
+    let l = c.before.before.before.before.before in
+    check_inside (at_checks_of (start l).requires.0 l.loop-i.s l.loop-i.invariant.sized) _ _ c.before.before.check_of-c.ensures
 
 add-i : tie.Need-overflow_add-i invariant-loop decreases-loop
 add-i c = omega arith

@@ -5,19 +5,19 @@ use Rattle.model.specs.Vote.{votes_by, votes_read}
 use Rattle.counters.proofs.read_vote.Statement.{statement}
 use Rattle.counters.proofs.read_vote.Tie as tie
 
-leader-by-requires : tie.Need-leader-by-requires
+leader-by-requires : tie.Need-leader_by-best-requires
 leader-by-requires c κs = search rules
 
-next-by-requires : tie.Need-next-by-requires
+next-by-requires : tie.Need-next_by-next-requires
 next-by-requires c κs = search rules
 
-shared-slice-read-zeros : tie.Need-shared-slice-read-zeros
+shared-slice-read-zeros : tie.Need-bounds-counters-0
 shared-slice-read-zeros c = search rules
 
 returns : tie.Need-returns
 unfolding votes_read votes_by
-returns c = rw (c.before.next-by.ensures, c.before.before.leader-by.ensures) refl
+returns c = rw (c.before.next_by-next.ensures, c.before.before.leader_by-best.ensures) refl
 
-pub read-vote-spec : {M : Type 1} → statement M
-read-vote-spec =
+pub read_vote_spec : {M : Type 1} → statement M
+read_vote_spec =
     tie.close (tie.spec leader-by-requires next-by-requires shared-slice-read-zeros returns)

@@ -11,19 +11,19 @@ use Rattle.counters.specs.Reading.{as_vote, read_counted}
 use Rattle.counters.proofs.vote_counted.Statement.{statement}
 use Rattle.counters.proofs.vote_counted.Tie as tie
 
-count-each-requires : tie.Need-count-each-requires
+count-each-requires : tie.Need-count_each-requires
 count-each-requires c κs = search rules
 
-read-vote-requires : tie.Need-read-vote-requires
+read-vote-requires : tie.Need-read_vote-v-requires
 read-vote-requires c κs =
     let e = c.before.before.before in
-    let s = e.before.before.before.before in
-    (omega (arith, s.requires.0), ap (λ (l : List ℕ). length l) e.count-each.ensures ∙ length_counted 256 s.args.es.now)
+    let s = e.before.before.before in
+    (omega (arith, s.requires.0), ap (λ (l : List ℕ). length l) e.count_each.ensures ∙ length_counted 256 s.args.es.now)
 
-clear-each-requires : tie.Need-clear-each-requires
+clear-each-requires : tie.Need-clear_each-requires
 clear-each-requires c κs = search rules
 
-same_length : tie.Need-same-length
+same_length : tie.Need-shape_of-counters
 same_length c = search rules
 
 returns : tie.Need-returns
@@ -34,13 +34,13 @@ returns c =
     let b = e.before.before.before in
     let s = b.before in
     let es : List ℕ = s.args.es.now in (
-      v.read-vote.ensures
-          ∙ ap (λ (l : List ℕ). as_vote (votes_read l es)) e.count-each.ensures
-          ∙ read_counted es (λ i. omega (arith, b.shared-slice-known.given i)),
-      d.clear-each.ensures ∙ sym s.requires.2,
+      v.read_vote-v.ensures
+          ∙ ap (λ (l : List ℕ). as_vote (votes_read l es)) e.count_each.ensures
+          ∙ read_counted es (λ i. omega (arith, b.shared_slice_known-1.given i)),
+      d.clear_each.ensures ∙ sym s.requires.2,
     )
 
-pub vote-counted-spec : {M : Type 1} → statement M
-vote-counted-spec =
+pub vote_counted_spec : {M : Type 1} → statement M
+vote_counted_spec =
     tie.close
     (tie.spec count-each-requires read-vote-requires clear-each-requires same_length returns)

@@ -7,44 +7,44 @@ use Rattle.file_reader.specs.Turns.{part_beyond, part_rest}
 use Rattle.file_reader.proofs.part.Statement.{statement}
 use Rattle.file_reader.proofs.part.Tie as tie
 
-slice-aggregate-result : tie.Need-slice-aggregate-result
+slice-aggregate-result : tie.Need-slice_bounds-result-end
 slice-aggregate-result c = search rules
 
-returns : tie.Need-returns
-returns c = let a = c.before.before.args in part_beyond a.file.now a.offset a.size (omega arith)
+returns : tie.Need-returns-then-file-start
+returns c = let a = c.before.args in part_beyond a.file.now a.offset a.size (omega arith)
 
-sub-if2 : tie.Need-overflow-sub-if2
+sub-if2 : tie.Need-overflow_sub-file
 sub-if2 c = search rules
 
-sub-result : tie.Need-overflow-sub-result
+sub-result : tie.Need-slice_bounds-result-count
 sub-result c = search rules
 
-part-result-start : tie.Need-slice-bounds-result-start
+part-result-start : tie.Need-slice_bounds-result-start
 part-result-start c = search rules
 
-part-result-end : tie.Need-slice-bounds-result-end
+part-result-end : tie.Need-slice_bounds-result-end-then-file-start-2
 part-result-end c = search rules
 
-returns-2 : tie.Need-returns-2
+returns-2 : tie.Need-returns-then-file-start-2
 returns-2 c = let a = c.before.before.before.args in part_rest a.file.now a.offset a.size (omega arith)
 
-add-end : tie.Need-overflow-add-end
+add-end : tie.Need-overflow_add-end
 add-end c = search rules
 
-sub-result-2 : tie.Need-overflow-sub-result-2
+sub-result-2 : tie.Need-slice_bounds-result-count-2
 sub-result-2 c = search rules
 
-part-result-start-2 : tie.Need-slice-bounds-result-start-2
+part-result-start-2 : tie.Need-slice_bounds-result-start-2
 part-result-start-2 c = search rules
 
-part-result-end-2 : tie.Need-slice-bounds-result-end-2
+part-result-end-2 : tie.Need-slice_bounds-result-end-2
 part-result-end-2 c = search rules
 
-returns-3 : tie.Need-returns-3
+returns-3 : tie.Need-returns
 returns-3 c = rw add-sub_cancel_left refl
 
-pub part-spec : {M : Type 1} → statement M
-part-spec =
+pub part_spec : {M : Type 1} → statement M
+part_spec =
     tie.close
     (tie.spec
     slice-aggregate-result

@@ -16,7 +16,7 @@ none false b c e = refl
 
 -- the comparisons of the other buffers
 abbrev rest : tie.Start → Bool
-rest b = let a = b.args in eqb a.result a.n && (eqb a.syndrome a.k && eqb a.difference a.n)
+rest b = let a = b.args in eqb a.res a.n && (eqb a.syndrome a.k && eqb a.difference a.n)
 
 returns : tie.Need-returns-then-page-k
 returns c = let a = c.before.args in none a.others _ (rest c.before) (ne_eqb a.page (a.n + a.k) (omega arith))

@@ -6,21 +6,21 @@ use lib.Dec.{T}
 use Rattle.quick_tests.proofs.is_before.Statement.{statement}
 use Rattle.quick_tests.proofs.is_before.Tie as tie
 
-mul-result : tie.Need-overflow-mul-result
+mul-result : tie.Need-offset_bounds-positions-i
 mul-result c = search rules
 
-shared-slice-read-result : tie.Need-shared-slice-read-result
+shared-slice-read-result : tie.Need-bounds-positions-i
 shared-slice-read-result c = search rules
 
-cast-result : tie.Need-overflow-cast-result
-cast-result c = omega (arith, c.shared-slice-known.given c.before.before.args.i)
+cast-result : tie.Need-overflow_cast-result
+cast-result c = omega (arith, c.shared_slice_known-1.given c.before.before.args.i)
 
-returns : tie.Need-returns
+returns : tie.Need-returns-then-i-positions
 returns c = search rules
 
-returns-2 : tie.Need-returns-2
+returns-2 : tie.Need-returns
 returns-2 c = (λ e. absurd (subst T (sym e) tt), λ _ h. absurd (omega (arith, h)))
 
-pub is-before-spec : {M : Type 1} → statement M
-is-before-spec =
+pub is_before_spec : {M : Type 1} → statement M
+is_before_spec =
     tie.close (tie.spec mul-result shared-slice-read-result cast-result returns returns-2)

@@ -14,31 +14,31 @@ use Rattle.quick_tests.specs.Counting.{straight_at, turned_at, above_none, count
 use Rattle.quick_tests.proofs.lead_above.Statement.{statement}
 use Rattle.quick_tests.proofs.lead_above.Tie as tie
 
-abbrev invariant-loop : tie.invariant-loop
+abbrev invariant-loop : tie.invariant-loop-e
 invariant-loop positions j own s bound counters₀ room i₀ counters i =
     (i ≤ length positions) × Counted 256 bound (estimates_by (j + room) positions j own s) (i + 1) counters
 
-abbrev decreases-loop : tie.decreases-loop
+abbrev decreases-loop : tie.decreases-loop-e
 decreases-loop positions j own s bound counters₀ room i₀ counters i = length positions - i
 
-abbrev invariant-loop2 : tie.invariant-loop2
+abbrev invariant-loop2 : tie.invariant-loop-i
 invariant-loop2 positions j own s bound counters₀ room i₀ counters i =
     (i ≤ length positions) × Counted 256 bound (estimates_by (j + room) positions j own s) (i + 1) counters × (i < length positions → room ≤ get_or positions i 0)
 
-abbrev decreases-loop2 : tie.decreases-loop2
+abbrev decreases-loop2 : tie.decreases-loop-i
 decreases-loop2 positions j own s bound counters₀ room i₀ counters i = length positions - i
 
 -- the start, seen from the loops, and the loops, seen from where an estimate is read
-abbrev start : tie.At-loop invariant-loop decreases-loop invariant-loop2 decreases-loop2 → tie.Start invariant-loop decreases-loop invariant-loop2 decreases-loop2
+abbrev start : tie.At-loop-e invariant-loop decreases-loop invariant-loop2 decreases-loop2 → tie.Start invariant-loop decreases-loop invariant-loop2 decreases-loop2
 start c = c.before.before.before.before.before
 
-abbrev turn : tie.After-shared-slice-known4 invariant-loop decreases-loop invariant-loop2 decreases-loop2 → tie.At-loop invariant-loop decreases-loop invariant-loop2 decreases-loop2
+abbrev turn : tie.After-shared_slice_known-in-loop-e-2-1 invariant-loop decreases-loop invariant-loop2 decreases-loop2 → tie.At-loop-e invariant-loop decreases-loop invariant-loop2 decreases-loop2
 turn c = c.before.before.before.before
 
-abbrev start2 : tie.At-loop2 invariant-loop decreases-loop invariant-loop2 decreases-loop2 → tie.Start invariant-loop decreases-loop invariant-loop2 decreases-loop2
+abbrev start2 : tie.At-loop-i invariant-loop decreases-loop invariant-loop2 decreases-loop2 → tie.Start invariant-loop decreases-loop invariant-loop2 decreases-loop2
 start2 c = start c.before.before.before
 
-abbrev turn2 : tie.After-shared-slice-known6 invariant-loop decreases-loop invariant-loop2 decreases-loop2 → tie.At-loop2 invariant-loop decreases-loop invariant-loop2 decreases-loop2
+abbrev turn2 : tie.After-shared_slice_known-in-loop-i-2-1 invariant-loop decreases-loop invariant-loop2 decreases-loop2 → tie.At-loop-i invariant-loop decreases-loop invariant-loop2 decreases-loop2
 turn2 c = c.before.before.before
 
 -- k is j and room together, so what is told by these is told by k
@@ -51,64 +51,64 @@ whole b =
     (let e : a.j + (a.code.k - a.j) ≡ a.code.k = omega (arith, b.requires.1) in e)
 
 -- in the first loop the position is there and less than room
-before : (t : tie.Then2 invariant-loop decreases-loop invariant-loop2 decreases-loop2) → let l = t.before.before in let a = (start l).args in
+before : (t : tie.In-loop-e invariant-loop decreases-loop invariant-loop2 decreases-loop2) → let l = t.before.before in let a = (start l).args in
     (l.loop.i < length a.positions.now) × (get_or a.positions.now l.loop.i 0 < a.code.k - a.j)
-before t = t.before.is-before.ensures.0 t.if2.true
+before t = t.before.is_before.ensures.0 t.loop-e-test.true
 
-returns : tie.Need-returns invariant-loop decreases-loop invariant-loop2 decreases-loop2
+returns : tie.Need-returns-then-bound-eq0 invariant-loop decreases-loop invariant-loop2 decreases-loop2
 returns c =
     let a = c.before.before.before.args in
     above_none a.code.k a.positions.now a.j a.own a.s.now a.bound (omega arith)
 
-array-write-counters : tie.Need-array-write-counters invariant-loop decreases-loop invariant-loop2 decreases-loop2
+array-write-counters : tie.Need-bounds-counters-own invariant-loop decreases-loop invariant-loop2 decreases-loop2
 array-write-counters c = search rules
 
-sub-room : tie.Need-overflow-sub-room invariant-loop decreases-loop invariant-loop2 decreases-loop2
+sub-room : tie.Need-overflow_sub-room invariant-loop decreases-loop invariant-loop2 decreases-loop2
 sub-room c = omega (arith, c.before.before.before.before.requires.1)
 
-loop-holds : tie.Need-loop-init invariant-loop decreases-loop invariant-loop2 decreases-loop2
+loop-holds : tie.Need-loop-e-init invariant-loop decreases-loop invariant-loop2 decreases-loop2
 loop-holds c =
     let a = c.before.before.before.before.args in
     (omega arith, counted_own (a.j + (a.code.k - a.j)) a.positions.now a.j a.own a.s.now a.bound (omega arith) (omega arith))
 
-is-before-requires : tie.Need-is-before-requires invariant-loop decreases-loop invariant-loop2 decreases-loop2
+is-before-requires : tie.Need-is_before-requires invariant-loop decreases-loop invariant-loop2 decreases-loop2
 is-before-requires c κs = search rules
 
-mul-e : tie.Need-overflow-mul-e invariant-loop decreases-loop invariant-loop2 decreases-loop2
+mul-e : tie.Need-offset_bounds-positions-i invariant-loop decreases-loop invariant-loop2 decreases-loop2
 mul-e c = search rules
 
-shared-slice-read-e : tie.Need-shared-slice-read-e invariant-loop decreases-loop invariant-loop2 decreases-loop2
+shared-slice-read-e : tie.Need-bounds-positions-i invariant-loop decreases-loop invariant-loop2 decreases-loop2
 shared-slice-read-e c = (before c.before).0
 
-cast-e : tie.Need-overflow-cast-e invariant-loop decreases-loop invariant-loop2 decreases-loop2
-cast-e c = omega (arith, c.shared-slice-known3.given c.before.before.before.loop.i)
+cast-e : tie.Need-overflow_cast-e invariant-loop decreases-loop invariant-loop2 decreases-loop2
+cast-e c = omega (arith, c.shared_slice_known-in-loop-e-1.given c.before.before.before.loop-e.i)
 
-add-e : tie.Need-overflow-add-e invariant-loop decreases-loop invariant-loop2 decreases-loop2
-add-e c = let b = start c.before.before.before in omega (arith, (before c.before).1, b.pre.0.k_high, b.pre.1)
+add-e : tie.Need-overflow_add-e invariant-loop decreases-loop invariant-loop2 decreases-loop2
+add-e c = let b = start c.before.before.before in omega (arith, (before c.before).1, b.requires.0.k_high, b.requires.1)
 
-shared-slice-read-e-2 : tie.Need-shared-slice-read-e-2 invariant-loop decreases-loop invariant-loop2 decreases-loop2
-shared-slice-read-e-2 c = let b = start (turn c) in omega (arith, (before c.before.before).1, b.pre.0.len, b.pre.1)
+shared-slice-read-e-2 : tie.Need-bounds-s-j invariant-loop decreases-loop invariant-loop2 decreases-loop2
+shared-slice-read-e-2 c = let b = start (turn c) in omega (arith, (before c.before.before).1, b.requires.0.len, b.requires.1)
 
-cast-e-2 : tie.Need-overflow-cast-e-2 invariant-loop decreases-loop invariant-loop2 decreases-loop2
-cast-e-2 c = let l = turn c in let a = (start l).args in omega (arith, c.shared-slice-known4.given (a.j + get_or a.positions.now l.loop.i 0))
+cast-e-2 : tie.Need-overflow_cast-e-in-loop-e invariant-loop decreases-loop invariant-loop2 decreases-loop2
+cast-e-2 c = let l = turn c in let a = (start l).args in omega (arith, c.shared_slice_known-in-loop-e-2-1.given (a.j + get_or a.positions.now l.loop.i 0))
 
-array-read-c : tie.Need-array-read-c invariant-loop decreases-loop invariant-loop2 decreases-loop2
-array-read-c c = let l = turn c in let a = (start l).args in omega (arith, c.shared-slice-known4.given (a.j + get_or a.positions.now l.loop.i 0))
+array-read-c : tie.Need-bounds-counters-e invariant-loop decreases-loop invariant-loop2 decreases-loop2
+array-read-c c = let l = turn c in let a = (start l).args in omega (arith, c.shared_slice_known-in-loop-e-2-1.given (a.j + get_or a.positions.now l.loop.i 0))
 
-add-c : tie.Need-overflow-add-c invariant-loop decreases-loop invariant-loop2 decreases-loop2
+add-c : tie.Need-overflow_add-c invariant-loop decreases-loop invariant-loop2 decreases-loop2
 add-c c =
     let l = turn c in
     let b = start l in
     let a = b.args in
     omega (
       arith,
-      b.pre.0.J-high,
+      b.requires.0.J-high,
       (before c.before.before).0,
       few_at (a.j + (a.code.k - a.j)) a.positions.now a.j a.own a.s.now a.bound l.loop.i l.loop.counters l.loop.inv.1
           (get_or a.s.now (a.j + get_or a.positions.now l.loop.i 0) 0),
     )
 
-returns-2 : tie.Need-returns-2 invariant-loop decreases-loop invariant-loop2 decreases-loop2
+returns-2 : tie.Need-returns-then-bound-c invariant-loop decreases-loop invariant-loop2 decreases-loop2
 returns-2 c =
     let l = turn c.before in
     let b = start l in
@@ -117,16 +117,16 @@ returns-2 c =
     above_at (a.j + (a.code.k - a.j)) a.positions.now a.j a.own a.s.now a.bound l.loop.i l.loop.counters l.loop.inv.1
     _ f.0 (straight_at a.j _ (a.code.k - a.j) f.1) (omega arith) ∙ whole b
 
-array-write-counters-2 : tie.Need-array-write-counters-2 invariant-loop decreases-loop invariant-loop2 decreases-loop2
+array-write-counters-2 : tie.Need-bounds-counters-e-in-loop-e invariant-loop decreases-loop invariant-loop2 decreases-loop2
 array-write-counters-2 c = array-read-c c.before
 
-add-i : tie.Need-overflow-add-i invariant-loop decreases-loop invariant-loop2 decreases-loop2
+add-i : tie.Need-overflow_add-i invariant-loop decreases-loop invariant-loop2 decreases-loop2
 add-i c = omega (arith, (before c.before.before.before).0)
 
-loop-less : tie.Need-loop-smaller invariant-loop decreases-loop invariant-loop2 decreases-loop2
+loop-less : tie.Need-loop-e-smaller invariant-loop decreases-loop invariant-loop2 decreases-loop2
 loop-less c = omega (arith, (before c.before.before.before).0)
 
-loop-again : tie.Need-loop-preserved invariant-loop decreases-loop invariant-loop2 decreases-loop2
+loop-again : tie.Need-loop-e-preserved invariant-loop decreases-loop invariant-loop2 decreases-loop2
 loop-again c =
     let l = turn c.before in
     let a = (start l).args in
@@ -136,53 +136,53 @@ loop-again c =
           (a.j + get_or a.positions.now l.loop.i 0) f.0 (straight_at a.j _ (a.code.k - a.j) f.1) (array-read-c c.before) (omega arith),
     )
 
-loop2-holds : tie.Need-loop2-init invariant-loop decreases-loop invariant-loop2 decreases-loop2
-loop2-holds c = let l = c.before.before in (l.loop.invariant.0, l.loop.invariant.1, c.before.is-before.ensures.1 c.if2.false)
+loop2-holds : tie.Need-loop-i-init invariant-loop decreases-loop invariant-loop2 decreases-loop2
+loop2-holds c = let l = c.before.before in (l.loop.invariant.0, l.loop.invariant.1, c.before.is_before.ensures.1 c.loop-e-test.false)
 
-mul-e-2 : tie.Need-overflow-mul-e-2 invariant-loop decreases-loop invariant-loop2 decreases-loop2
+mul-e-2 : tie.Need-offset_bounds-positions-i-in-loop-i invariant-loop decreases-loop invariant-loop2 decreases-loop2
 mul-e-2 c = search rules
 
-shared-slice-read-e-3 : tie.Need-shared-slice-read-e-3 invariant-loop decreases-loop invariant-loop2 decreases-loop2
+shared-slice-read-e-3 : tie.Need-bounds-positions-i-in-loop-i invariant-loop decreases-loop invariant-loop2 decreases-loop2
 shared-slice-read-e-3 c = omega arith
 
-cast-e-3 : tie.Need-overflow-cast-e-3 invariant-loop decreases-loop invariant-loop2 decreases-loop2
-cast-e-3 c = omega (arith, c.shared-slice-known5.given c.before.before.loop2.i)
+cast-e-3 : tie.Need-overflow_cast-e-in-loop-i invariant-loop decreases-loop invariant-loop2 decreases-loop2
+cast-e-3 c = omega (arith, c.shared_slice_known-in-loop-i-1.given c.before.before.loop-i.i)
 
 -- in the second loop the position is room or more, and less than k
-after : (t : tie.In-loop2 invariant-loop decreases-loop invariant-loop2 decreases-loop2) → let l = t.before in let a = (start2 l).args in
+after : (t : tie.In-loop-i invariant-loop decreases-loop invariant-loop2 decreases-loop2) → let l = t.before in let a = (start2 l).args in
     (l.loop2.i < length a.positions.now) × (a.code.k - a.j ≤ get_or a.positions.now l.loop2.i 0) × (get_or a.positions.now l.loop2.i 0 < a.j + (a.code.k - a.j))
 after t =
     let l = t.before in
     let b = start2 l in
     let h : l.loop2.i < length b.args.positions.now = omega arith in
-    (h, l.loop2.invariant.2 h, omega (arith, b.pre.0.ascending.below l.loop2.i h, b.pre.1))
+    (h, l.loop2.invariant.2 h, omega (arith, b.requires.0.ascending.below l.loop2.i h, b.requires.1))
 
-sub-e : tie.Need-overflow-sub-e invariant-loop decreases-loop invariant-loop2 decreases-loop2
+sub-e : tie.Need-overflow_sub-e invariant-loop decreases-loop invariant-loop2 decreases-loop2
 sub-e c = omega (arith, (after c.before).1)
 
-shared-slice-read-e-4 : tie.Need-shared-slice-read-e-4 invariant-loop decreases-loop invariant-loop2 decreases-loop2
-shared-slice-read-e-4 c = let b = start2 (turn2 c) in let f = after c.before.before in omega (arith, f.1, f.2, b.pre.0.len, b.pre.1)
+shared-slice-read-e-4 : tie.Need-bounds-s-positions invariant-loop decreases-loop invariant-loop2 decreases-loop2
+shared-slice-read-e-4 c = let b = start2 (turn2 c) in let f = after c.before.before in omega (arith, f.1, f.2, b.requires.0.len, b.requires.1)
 
-cast-e-4 : tie.Need-overflow-cast-e-4 invariant-loop decreases-loop invariant-loop2 decreases-loop2
-cast-e-4 c = let l = turn2 c in let a = (start2 l).args in omega (arith, c.shared-slice-known6.given (get_or a.positions.now l.loop2.i 0 - (a.code.k - a.j)))
+cast-e-4 : tie.Need-overflow_cast-e-in-loop-i-2 invariant-loop decreases-loop invariant-loop2 decreases-loop2
+cast-e-4 c = let l = turn2 c in let a = (start2 l).args in omega (arith, c.shared_slice_known-in-loop-i-2-1.given (get_or a.positions.now l.loop2.i 0 - (a.code.k - a.j)))
 
-array-read-c-2 : tie.Need-array-read-c-2 invariant-loop decreases-loop invariant-loop2 decreases-loop2
-array-read-c-2 c = let l = turn2 c in let a = (start2 l).args in omega (arith, c.shared-slice-known6.given (get_or a.positions.now l.loop2.i 0 - (a.code.k - a.j)))
+array-read-c-2 : tie.Need-bounds-counters-e-in-loop-i invariant-loop decreases-loop invariant-loop2 decreases-loop2
+array-read-c-2 c = let l = turn2 c in let a = (start2 l).args in omega (arith, c.shared_slice_known-in-loop-i-2-1.given (get_or a.positions.now l.loop2.i 0 - (a.code.k - a.j)))
 
-add-c-2 : tie.Need-overflow-add-c-2 invariant-loop decreases-loop invariant-loop2 decreases-loop2
+add-c-2 : tie.Need-overflow_add-c-in-loop-i invariant-loop decreases-loop invariant-loop2 decreases-loop2
 add-c-2 c =
     let l = turn2 c in
     let b = start2 l in
     let a = b.args in
     omega (
       arith,
-      b.pre.0.J-high,
+      b.requires.0.J-high,
       (after c.before.before).0,
       few_at (a.j + (a.code.k - a.j)) a.positions.now a.j a.own a.s.now a.bound l.loop2.i l.loop2.counters l.loop2.inv.1
           (get_or a.s.now (get_or a.positions.now l.loop2.i 0 - (a.code.k - a.j)) 0),
     )
 
-returns-3 : tie.Need-returns-3 invariant-loop decreases-loop invariant-loop2 decreases-loop2
+returns-3 : tie.Need-returns-then-bound-c-2 invariant-loop decreases-loop invariant-loop2 decreases-loop2
 returns-3 c =
     let l = turn2 c.before in
     let b = start2 l in
@@ -191,16 +191,16 @@ returns-3 c =
     above_at (a.j + (a.code.k - a.j)) a.positions.now a.j a.own a.s.now a.bound l.loop2.i l.loop2.counters l.loop2.inv.1
     _ f.0 (turned_at a.j _ (a.code.k - a.j) f.1 f.2) (omega arith) ∙ whole b
 
-array-write-counters-3 : tie.Need-array-write-counters-3 invariant-loop decreases-loop invariant-loop2 decreases-loop2
+array-write-counters-3 : tie.Need-bounds-counters-e-in-loop-i-2 invariant-loop decreases-loop invariant-loop2 decreases-loop2
 array-write-counters-3 c = array-read-c-2 c.before
 
-add-i-2 : tie.Need-overflow-add-i-2 invariant-loop decreases-loop invariant-loop2 decreases-loop2
+add-i-2 : tie.Need-overflow_add-i-in-loop-i invariant-loop decreases-loop invariant-loop2 decreases-loop2
 add-i-2 c = omega (arith, (after c.before.before.before).0)
 
-loop2-less : tie.Need-loop2-smaller invariant-loop decreases-loop invariant-loop2 decreases-loop2
+loop2-less : tie.Need-loop-i-smaller invariant-loop decreases-loop invariant-loop2 decreases-loop2
 loop2-less c = omega (arith, (after c.before.before.before).0)
 
-loop2-again : tie.Need-loop2-preserved invariant-loop decreases-loop invariant-loop2 decreases-loop2
+loop2-again : tie.Need-loop-i-preserved invariant-loop decreases-loop invariant-loop2 decreases-loop2
 loop2-again c =
     let l = turn2 c.before in
     let b = start2 l in
@@ -209,18 +209,18 @@ loop2-again c =
       omega (arith, f.0),
       more-at (a.j + (a.code.k - a.j)) a.positions.now a.j a.own a.s.now a.bound l.loop2.i l.loop2.counters l.loop2.inv.1
           (get_or a.positions.now l.loop2.i 0 - (a.code.k - a.j)) f.0 (turned_at a.j _ (a.code.k - a.j) f.1 f.2) (array-read-c-2 c.before) (omega arith),
-      λ h. rw (add-one l.loop2.i) (omega (arith, f.1, b.pre.0.ascending.above l.loop2.i (omega (arith, h)))),
+      λ h. rw (add-one l.loop2.i) (omega (arith, f.1, b.requires.0.ascending.above l.loop2.i (omega (arith, h)))),
     )
 
-returns-4 : tie.Need-returns-4 invariant-loop decreases-loop invariant-loop2 decreases-loop2
+returns-4 : tie.Need-returns invariant-loop decreases-loop invariant-loop2 decreases-loop2
 returns-4 c =
     let l = c.before in
     let b = start2 l in
     let a = b.args in
     within_at (a.j + (a.code.k - a.j)) a.positions.now a.j a.own a.s.now a.bound l.loop2.i l.loop2.counters l.loop2.invariant.1 (omega arith) ∙ whole b
 
-pub lead-above-spec : {M : Type 1} → statement M
-lead-above-spec =
+pub lead_above_spec : {M : Type 1} → statement M
+lead_above_spec =
     tie.close
     (tie.spec
     invariant-loop

@@ -10,24 +10,24 @@ use borrow.Author.Rules.{rules}
 use Rattle.rows.proofs.add_row.Statement.{statement}
 use Rattle.rows.proofs.add_row.Tie as tie
 
-sub-rest : tie.Need-overflow-sub-rest
+sub-rest : tie.Need-overflow_sub-rest
 sub-rest c = search rules
 
-sub-add-into : tie.Need-overflow-sub-add-into
+sub-add-into : tie.Need-slice_bounds-add_into-count
 sub-add-into c = search rules
 
-part-add-into-start : tie.Need-slice-bounds-add-into-start
+part-add-into-start : tie.Need-slice_bounds-add_into-start
 part-add-into-start c = search rules
 
-part-add-into-end : tie.Need-slice-bounds-add-into-end
+part-add-into-end : tie.Need-slice_bounds-add_into-end
 part-add-into-end c = search rules
 
-slice-aggregate-add-into : tie.Need-slice-aggregate-add-into
+slice-aggregate-add-into : tie.Need-slice_bounds-add_into-end-2
 slice-aggregate-add-into c = simp length-take (omega arith)
 
-add-into-requires : tie.Need-add-into-requires
+add-into-requires : tie.Need-add_into-requires
 add-into-requires c κs =
-    let b = c.before.before.before.before in
+    let b = c.before.before.before in
     let a = b.args in (
       omega arith,
       omega arith,
@@ -36,27 +36,27 @@ add-into-requires c κs =
       λ i. omega (arith, below_part a.q (omega arith) 0 (length a.src.now - a.p) a.src.now b.requires.5 i),
     )
 
-slice-relend-prefix-add-into : tie.Need-slice-relend-prefix-add-into
+slice-relend-prefix-add-into : tie.Need-slice_bounds-add_into-end-3
 slice-relend-prefix-add-into c = search rules
 
-slice-aggregate-add-into-2 : tie.Need-slice-aggregate-add-into-2
+slice-aggregate-add-into-2 : tie.Need-slice_bounds-add_into-end-4
 slice-aggregate-add-into-2 c = sym (length-take-le _ _ (slice-relend-prefix-add-into c.before))
 
-sub-add-into-2 : tie.Need-overflow-sub-add-into-2
+sub-add-into-2 : tie.Need-slice_bounds-add_into-count-2
 sub-add-into-2 c = search rules
 
-part-add-into-start-2 : tie.Need-slice-bounds-add-into-start-2
+part-add-into-start-2 : tie.Need-slice_bounds-add_into-start-2
 part-add-into-start-2 c = search rules
 
-part-add-into-end-2 : tie.Need-slice-bounds-add-into-end-2
+part-add-into-end-2 : tie.Need-slice_bounds-add_into-end-5
 part-add-into-end-2 c = search rules
 
-add-into-requires-2 : tie.Need-add-into-requires-2
+add-into-requires-2 : tie.Need-add_into-requires-2
 add-into-requires-2 c κs =
-    let b = c.before.before.before.before.before.before.before.before.before in
+    let b = c.before.before.before.before.before.before.before.before in
     let a = b.args in
     let rest : ℕ = length a.src.now - a.p in
-    let r = c.before.before.before.before.add-into.new.1.0 in (
+    let r = c.before.before.before.before.add_into.new.acc in (
       omega arith,
       omega arith,
       sym (slice-aggregate-add-into-2 c.before) ∙ simp (length-take, length-drop) (omega arith),
@@ -64,18 +64,18 @@ add-into-requires-2 c κs =
       λ i. omega (arith, below_part a.q (omega arith) rest (length a.src.now - rest) a.src.now b.requires.5 i),
     )
 
-same_length : tie.Need-same-length
+same_length : tie.Need-shape_of-acc
 same_length c = search rules
 
 returns : tie.Need-returns
 returns c =
-    let a = c.before.before.before.before.before.before.before.before.before.before.before.before.args in
-    let first = c.before.before.before.before.before.before.before.add-into in
-    let second = c.before.before.add-into2 in
-    added_row a.p a.acc.now a.src.now (omega arith) (omega arith) a.q first.new.1.0 second.new.1.0 first.ensures second.ensures
+    let a = c.before.before.before.before.before.before.before.before.before.before.before.args in
+    let first = c.before.before.before.before.before.before.before.add_into in
+    let second = c.before.before.add_into-2 in
+    added_row a.p a.acc.now a.src.now (omega arith) (omega arith) a.q first.new.acc second.new.acc first.ensures second.ensures
 
-pub add-row-spec : {M : Type 1} → statement M
-add-row-spec =
+pub add_row_spec : {M : Type 1} → statement M
+add_row_spec =
     tie.close
     (tie.spec
     sub-rest

@@ -6,66 +6,66 @@ use Rattle.theory.specs.Written.{Written, opened, turned, closed}
 use Rattle.symbols32.proofs.add_two_into.Statement.{statement}
 use Rattle.symbols32.proofs.add_two_into.Tie as tie
 
-abbrev invariant-loop : tie.invariant-loop
+abbrev invariant-loop : tie.invariant-loop-i
 invariant-loop acc₀ xs ys i₀ acc i = Written (λ l x. add 4294967296 (add 4294967296 x (get_or xs l 0)) (get_or ys l 0)) acc₀ i acc
 
-abbrev decreases-loop : tie.decreases-loop
+abbrev decreases-loop : tie.decreases-loop-i
 decreases-loop acc₀ xs ys i₀ acc i = length acc₀ - i
 
-loop-holds : tie.Need-loop-init invariant-loop decreases-loop
+loop-holds : tie.Need-loop-i-init invariant-loop decreases-loop
 loop-holds c = opened _ _
 
-mul-add-wrap : tie.Need-overflow-mul-add-wrap invariant-loop decreases-loop
+mul-add-wrap : tie.Need-offset_bounds-acc-i invariant-loop decreases-loop
 mul-add-wrap c = omega arith
 
-slice-read-add-wrap : tie.Need-slice-read-add-wrap invariant-loop decreases-loop
+slice-read-add-wrap : tie.Need-bounds-acc-i invariant-loop decreases-loop
 slice-read-add-wrap c = omega arith
 
-mul-add-wrap-2 : tie.Need-overflow-mul-add-wrap-2 invariant-loop decreases-loop
+mul-add-wrap-2 : tie.Need-offset_bounds-xs-i invariant-loop decreases-loop
 mul-add-wrap-2 c = omega arith
 
-shared-slice-read-add-wrap : tie.Need-shared-slice-read-add-wrap invariant-loop decreases-loop
+shared-slice-read-add-wrap : tie.Need-bounds-xs-i invariant-loop decreases-loop
 shared-slice-read-add-wrap c = omega arith
 
-add-wrap-requires : tie.Need-add-wrap-requires invariant-loop decreases-loop
+add-wrap-requires : tie.Need-add_wrap-requires invariant-loop decreases-loop
 add-wrap-requires c κs = search rules
 
-mul-add-wrap-3 : tie.Need-overflow-mul-add-wrap-3 invariant-loop decreases-loop
+mul-add-wrap-3 : tie.Need-offset_bounds-ys-i invariant-loop decreases-loop
 mul-add-wrap-3 c = omega arith
 
-shared-slice-read-add-wrap-2 : tie.Need-shared-slice-read-add-wrap-2 invariant-loop decreases-loop
+shared-slice-read-add-wrap-2 : tie.Need-bounds-ys-i invariant-loop decreases-loop
 shared-slice-read-add-wrap-2 c = omega arith
 
-add-wrap-requires-2 : tie.Need-add-wrap-requires-2 invariant-loop decreases-loop
+add-wrap-requires-2 : tie.Need-add_wrap-requires-in-loop-i invariant-loop decreases-loop
 add-wrap-requires-2 c κs = search rules
 
-mul-acc : tie.Need-overflow-mul-acc invariant-loop decreases-loop
+mul-acc : tie.Need-offset_bounds-acc-i-in-loop-i invariant-loop decreases-loop
 mul-acc c = omega arith
 
-slice-write-acc : tie.Need-slice-write-acc invariant-loop decreases-loop
+slice-write-acc : tie.Need-bounds-acc-i-in-loop-i invariant-loop decreases-loop
 slice-write-acc c = omega arith
 
-add-i : tie.Need-overflow-add-i invariant-loop decreases-loop
+add-i : tie.Need-overflow_add-i invariant-loop decreases-loop
 add-i c = omega arith
 
-loop-less : tie.Need-loop-smaller invariant-loop decreases-loop
+loop-less : tie.Need-loop-i-smaller invariant-loop decreases-loop
 loop-less c = omega arith
 
-loop-again : tie.Need-loop-preserved invariant-loop decreases-loop
+loop-again : tie.Need-loop-i-preserved invariant-loop decreases-loop
 loop-again c =
     let b = c.before.before in
-    let l = b.before.before.before.before.loop in
+    let l = b.before.before.before.before.loop-i in
     let x = b.before.before.before.before.before.before.before.before.args in
-    turned l.invariant (omega arith) (c.add-wrap2.ensures ∙ ap (λ (s : ℕ). add 4294967296 s (get_or x.ys.now l.i 0)) b.add-wrap.ensures)
+    turned l.invariant (omega arith) (c.add_wrap-in-loop-i.ensures ∙ ap (λ (s : ℕ). add 4294967296 s (get_or x.ys.now l.i 0)) b.add_wrap.ensures)
 
-same_length : tie.Need-same-length invariant-loop decreases-loop
+same_length : tie.Need-shape_of-acc invariant-loop decreases-loop
 same_length c = omega arith
 
 returns : tie.Need-returns invariant-loop decreases-loop
-returns c = closed c.before.loop.invariant (omega arith) ∙ add_twice _ _ _ _
+returns c = closed c.before.loop-i.invariant (omega arith) ∙ add_twice _ _ _ _
 
-pub add-two-into-spec : {M : Type 1} → statement M
-add-two-into-spec =
+pub add_two_into_spec : {M : Type 1} → statement M
+add_two_into_spec =
     tie.close
     (tie.spec
     invariant-loop

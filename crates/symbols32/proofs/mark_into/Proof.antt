@@ -5,46 +5,46 @@ use Rattle.theory.specs.Written.{Written, opened, turned, closed}
 use Rattle.symbols32.proofs.mark_into.Statement.{statement}
 use Rattle.symbols32.proofs.mark_into.Tie as tie
 
-abbrev invariant-loop : tie.invariant-loop
+abbrev invariant-loop : tie.invariant-loop-i
 invariant-loop marks₀ s i₀ marks i = Written (λ l x. differ (get_or s l 0) 0) marks₀ i marks
 
-abbrev decreases-loop : tie.decreases-loop
+abbrev decreases-loop : tie.decreases-loop-i
 decreases-loop marks₀ s i₀ marks i = length marks₀ - i
 
-loop-holds : tie.Need-loop-init invariant-loop decreases-loop
+loop-holds : tie.Need-loop-i-init invariant-loop decreases-loop
 loop-holds c = opened _ _
 
-mul-mark : tie.Need-overflow-mul-mark invariant-loop decreases-loop
+mul-mark : tie.Need-offset_bounds-s-i invariant-loop decreases-loop
 mul-mark c = omega arith
 
-shared-slice-read-mark : tie.Need-shared-slice-read-mark invariant-loop decreases-loop
+shared-slice-read-mark : tie.Need-bounds-s-i invariant-loop decreases-loop
 shared-slice-read-mark c = omega arith
 
 mark-requires : tie.Need-mark-requires invariant-loop decreases-loop
 mark-requires c κs = search rules
 
-slice-write-marks : tie.Need-slice-write-marks invariant-loop decreases-loop
+slice-write-marks : tie.Need-bounds-marks-i invariant-loop decreases-loop
 slice-write-marks c = omega arith
 
-add-i : tie.Need-overflow-add-i invariant-loop decreases-loop
+add-i : tie.Need-overflow_add-i invariant-loop decreases-loop
 add-i c = omega arith
 
-loop-less : tie.Need-loop-smaller invariant-loop decreases-loop
+loop-less : tie.Need-loop-i-smaller invariant-loop decreases-loop
 loop-less c = omega arith
 
-loop-again : tie.Need-loop-preserved invariant-loop decreases-loop
-loop-again c = turned c.before.before.before.loop.invariant (omega arith) c.mark.ensures
+loop-again : tie.Need-loop-i-preserved invariant-loop decreases-loop
+loop-again c = turned c.before.before.before.loop-i.invariant (omega arith) c.mark.ensures
 
-same_length : tie.Need-same-length invariant-loop decreases-loop
+same_length : tie.Need-shape_of-marks invariant-loop decreases-loop
 same_length c = omega arith
 
 returns : tie.Need-returns invariant-loop decreases-loop
 returns c =
     let a = c.before.before.before.before in
-    closed c.before.loop.invariant (omega arith) ∙ ap (λ (n : ℕ). tabulate n (λ l. differ (get_or a.args.s.now l 0) 0)) a.requires
+    closed c.before.loop-i.invariant (omega arith) ∙ ap (λ (n : ℕ). tabulate n (λ l. differ (get_or a.args.s.now l 0) 0)) a.requires
 
-pub mark-into-spec : {M : Type 1} → statement M
-mark-into-spec =
+pub mark_into_spec : {M : Type 1} → statement M
+mark_into_spec =
     tie.close
     (tie.spec
     invariant-loop

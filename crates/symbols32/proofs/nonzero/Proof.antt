@@ -4,11 +4,11 @@ use Rattle.theory.specs.Counting.{differ_no, differ_yes}
 use Rattle.symbols32.proofs.nonzero.Statement.{statement}
 use Rattle.symbols32.proofs.nonzero.Tie as tie
 
-returns : tie.Need-returns
+returns : tie.Need-returns-then-x-eq0
 returns c = omega (arith, differ_no c.before.args.x 0 (omega arith))
 
-returns-2 : tie.Need-returns-2
+returns-2 : tie.Need-returns-else-x-eq0
 returns-2 c = omega (arith, differ_yes c.before.args.x 0 (omega arith))
 
-pub nonzero-spec : {M : Type 1} → statement M
-nonzero-spec = tie.close (tie.spec returns returns-2)
+pub nonzero_spec : {M : Type 1} → statement M
+nonzero_spec = tie.close (tie.spec returns returns-2)
