@@ -13,7 +13,7 @@ use Rattle.theory.specs.Outcomes.{left_as_lent, left_as_done, outcome_number, ou
 use Rattle.theory.specs.WideBytes.{symbols_length, symbol-at, positions_symbols}
 use Rattle.position_bytes.specs.Positions.{kept}
 use Rattle.model.specs.Files.{number_at, Entry, entry_at, total, read_tests, read_answer, no_entry, read_outcome, Listing, listing, contents_end, file_length, lists_agree, write_tests, write_answer, Written, filled, write_outcome, entry_words, c_read_outcome, c_listing, c_lists_fit, c_write_outcome}
-use Rattle.theory.specs.Files.{write_taken}
+use Rattle.theory.proofs.Files.{write_taken}
 use Rattle.file_reader.specs.Turns.{outcome_of}
 use Rattle.file_reader.specs.declared.Found.{Found}
 use Rattle.file_lists.specs.Steps.{Agrees, write_6, write_13}

@@ -14,11 +14,12 @@ use Rattle.position_bytes.specs.Positions.{kept}
 use Rattle.position_bytes.specs.Reads.{decode_read, pass_whole}
 use Rattle.theory.specs.Answers.{and_true, eqb-true, Taken, decode_taken, decode_opens, PassTaken, pass_taken, table_usable}
 use Rattle.theory.specs.Decoding.{code_on}
-use Rattle.theory.specs.InBlocks.{c_decode_form, c_decode_done}
+use Rattle.theory.specs.InBlocks.{c_decode_form}
+use Rattle.theory.proofs.InBlocks.{c_decode_done}
 use Rattle.theory.specs.Outcomes.{outcome_number, outcome_done}
 use Rattle.theory.specs.Runs.{range_passes, symbols_range}
-use Rattle.theory.specs.Statements.{decode_falls, decode_recovers, pass_falls}
-use Rattle.theory.specs.WideBytes.{symbols_back}
+use Rattle.theory.proofs.Statements.{decode_falls, decode_recovers, pass_falls}
+use Rattle.theory.proofs.WideBytes.{symbols_back}
 use Rattle.theory.specs.WideCalls.{Wide, in_bytes}
 use Rattle.c_wide.specs.Calls.{bytes_by, some_checks, state_bytes}
 

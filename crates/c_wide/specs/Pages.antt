@@ -10,7 +10,8 @@ use Rattle.model.specs.Symbols.{tabulate, Below}
 use Rattle.theory.specs.Distance.{get_d_tabulate, tabulate_ext, below_tabulate}
 use Rattle.theory.specs.Modulo.{sub_unique}
 use Rattle.theory.specs.Parts.{below_part}
-use Rattle.theory.specs.WideBytes.{symbols_length, symbols_back, symbols_below, bytes_of_symbols}
+use Rattle.theory.specs.WideBytes.{symbols_length, symbols_below, bytes_of_symbols}
+use Rattle.theory.proofs.WideBytes.{symbols_back}
 
 -- ---- strings of symbols
 

@@ -15,7 +15,7 @@ use Rattle.theory.specs.Outcomes.{left_as_lent, left_as_done}
 use Rattle.model.specs.Files.{entry_bytes, contents_end, contents_of, total, entry_fits, entries_fit, symbols_fit, Listing, listed_from, page_count, listed, file_of, file_length, lists_agree, write_tests, write_answer, Written, filled, write_outcome}
 use Rattle.model.specs.Files as format
 use Rattle.theory.specs.FileBytes.{and_make, length_contents, length_listed, length_entry}
-use Rattle.theory.specs.Files.{write_taken}
+use Rattle.theory.proofs.Files.{write_taken}
 
 -- no symbol of the bodies joined is above its q − 1, by the lists
 unfoldable pub symbols_listed : List ℕ → List ℕ → List ℕ → Bool

@@ -12,7 +12,7 @@ use Rattle.theory.specs.Answers.{and_true, passed_by, refused_by, nothing_applie
 use Rattle.model.specs.Files.{count_of, contents_end, entry_at, entries_from, entries_of, bodies_in, sizes_of, total, entry_fits, entries_fit, symbols_fit, read_tests, read_answer, no_entry, part_of, read_outcome, read_body}
 use Rattle.model.specs.Files as format
 use Rattle.theory.specs.FileBytes.{and_make, entry_same, entry-fits}
-use Rattle.theory.specs.Files.{read_accepted}
+use Rattle.theory.proofs.Files.{read_accepted}
 use Rattle.file_entries.specs.declared.Entry.{Entry}
 use Rattle.file_entries.specs.Entries.{entry_from, entry_in}
 use Rattle.file_reader.specs.declared.Found.{Found}

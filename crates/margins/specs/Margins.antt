@@ -13,7 +13,8 @@ use Rattle.model.specs.Vote.{other_count, margin}
 use Rattle.theory.specs.Branches.{checks_length}
 use Rattle.theory.specs.Counting.{same_yes, differ_no, differ_yes, All, length_symbols_at, misses, count_misses}
 use Rattle.theory.specs.Integers.{whole}
-use Rattle.theory.specs.Margins.{zeros_others, margin_top, margins_snoc}
+use Rattle.theory.proofs.Margins.{zeros_others, margin_top}
+use Rattle.theory.specs.Margins.{margins_snoc}
 use Rattle.theory.specs.Runs.{symbols_range}
 use Rattle.theory.specs.Voting.{other_max}
 use Rattle.checks.specs.Checks.{AtChecks, estimates_by}

@@ -10,11 +10,12 @@ use Rattle.model.specs.Code.{checks_by}
 use Rattle.model.specs.Decoder.{is_change}
 use Rattle.model.specs.Symbols.{choose, bit, count, symbols_at, Below}
 use Rattle.model.specs.Vote.{leader, Votes, gathered, equal_bits, bit_votes, zeros_in, ones_decide}
-use Rattle.theory.specs.BitVote.{gathered_cons, bits_all, word_ones, vote_bits, change_bits, equal-bits}
+use Rattle.theory.specs.BitVote.{gathered_cons}
+use Rattle.theory.proofs.BitVote.{bits_all, word_ones, vote_bits, change_bits, equal-bits}
 use Rattle.theory.specs.Circulant.{length_checks_by}
 use Rattle.theory.specs.Counting.{length_symbols_at}
 use Rattle.theory.specs.Explaining.{bits_nil, bits_small, bits_below}
-use Rattle.theory.specs.Margins.{zeros_others}
+use Rattle.theory.proofs.Margins.{zeros_others}
 use Rattle.theory.specs.Voting.{other_max}
 use Rattle.vote.specs.Leading.{vote_of}
 use Rattle.vote.specs.Others.{others}

@@ -10,11 +10,12 @@ use Rattle.model.specs.Decoder.{State, after, data_symbols, opened, passes_of, r
 use Rattle.model.specs.Outer.{block_count, outer_steps, step_count, outer_state, outer_counts}
 use Rattle.theory.specs.Answers.{Opens, BlockFits}
 use Rattle.theory.specs.InBlocks.{Blocks}
-use Rattle.theory.specs.Statements.{one_block}
+use Rattle.theory.proofs.Statements.{one_block}
 use Rattle.theory.specs.Decoding.{OnPage, on_distance, code_on, code_falls, code_distance, code_opened_sized}
 use Rattle.theory.specs.Falling.{InRange, changes_spent}
 use Rattle.theory.specs.Moments.{weight_few}
-use Rattle.theory.specs.OuterCheck.{no_steps, clean_no_step, steps_on}
+use Rattle.theory.specs.OuterCheck.{no_steps, steps_on}
+use Rattle.theory.proofs.OuterCheck.{clean_no_step}
 use Rattle.theory.specs.Runs.{range_passes, symbols_range}
 use Rattle.correction.specs.Decoded.{tally_of, decoded, decoded_distance}
 use Rattle.outer_steps.specs.Blocks.{Stepped, steps_to, none_made, steps_ready, steps_fit, blocks_few}

@@ -15,7 +15,7 @@ use Rattle.model.specs.Symbols.{choose}
 use Rattle.theory.specs.Answers.{refused_first, sizes_taken, page_taken}
 use Rattle.theory.specs.InBlocks.{blocks_answer, form_outcome, c_decode_form}
 use Rattle.theory.specs.Outcomes.{left_as_lent, outcome_number}
-use Rattle.theory.specs.Statements.{pass_falls}
+use Rattle.theory.proofs.Statements.{pass_falls}
 use Rattle.position_bytes.specs.Positions.{kept, all_read, read_same}
 
 -- ---- too many positions are refused as none are

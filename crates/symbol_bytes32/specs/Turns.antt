@@ -5,7 +5,8 @@ use Rattle.std.proofs.lemmas.List.Edits.{sets}
 use Rattle.model.specs.Bytes.{number_of, bytes_in, symbols_of, symbol_bytes}
 use Rattle.model.specs.Symbols.{Below}
 use Rattle.theory.specs.Counting.{eqb_no}
-use Rattle.theory.specs.WideBytes.{symbols_length, symbol-at, symbol_set, bytes_of_symbols}
+use Rattle.theory.specs.WideBytes.{symbols_length, symbol-at, bytes_of_symbols}
+use Rattle.theory.proofs.WideBytes.{symbol_set}
 
 pub one_more : (xs ys : List ℕ) (i x : ℕ) → i < length xs → i < length ys → take i xs ≡ take i ys → x ≡ get_or ys i 0 → take (i + 1) (set xs i x) ≡ take (i + 1) ys
 one_more xs ys i x h l e f =

@@ -6,7 +6,7 @@ use Prim.Native.Nat.{ℕ, zero, suc, ◌+◌, ◌-◌, ◌*◌, ◌/◌, ◌%◌
 use Rattle.std.proofs.Math.Nat.{mod-add-mod}
 use Rattle.std.proofs.Math.Decide.{ℕ_discrete}
 use Rattle.std.proofs.Math.Arith.{digits_div}
-use Rattle.model.specs.Code.{Code, data_count, check_count, checks_of}
+use Rattle.model.specs.Code.{Code, data_count, check_count}
 use Rattle.model.specs.Decoder.{State, change}
 use Rattle.model.specs.Outer.{part_sum, block_sum, block_count, reliability_of, least_below, weakest, is_step, outer_step, outer_steps}
 use Rattle.model.specs.Symbols.{sub, sum_of_first}

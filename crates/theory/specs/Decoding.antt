@@ -1,20 +1,18 @@
 -- Decoding a page by a code: demand 3 of any visits from an opened page, and what holds at every moment of them.
 use Rattle.std.specs.Prelude.{◌≡◌, take, drop}
 use Rattle.std.proofs.Math.Path.{ap}
-use Rattle.std.proofs.Common.{sym, ◌∙◌, subst, arith, take-append-drop}
+use Rattle.std.proofs.Common.{sym, ◌∙◌, take-append-drop}
 use mathlib.Core.List.{List, []}
-use Prim.Native.Nat.{ℕ, ◌+◌, ◌≤◌, ◌<◌}
-use Rattle.model.specs.Code.{Code, data_count, check_count, page_length, checks_each, checks_of}
-use Rattle.model.specs.Decoder.{State, Visit, estimates, change, after, change_count, pass, passes, none, data_symbols, opened, passes_of, distance_to, state_weight}
-use Rattle.model.specs.Demand.{Falls, RunFalls, Recovers}
+use Prim.Native.Nat.{ℕ, ◌+◌, ◌<◌}
+use Rattle.model.specs.Code.{Code, data_count, check_count, page_length, checks_of}
+use Rattle.model.specs.Decoder.{State, Visit, estimates, change, after, change_count, pass, none, data_symbols, opened, passes_of, distance_to, state_weight}
+use Rattle.model.specs.Demand.{Falls, RunFalls}
 use Rattle.model.specs.Symbols.{count, distance}
-use Rattle.theory.specs.Answers.{encoded_symbols, encoded_data}
 use Rattle.theory.specs.Codes.{Usable, code_incidence, code-word, code_opened}
-use Rattle.theory.specs.Counting.{All}
 use Rattle.theory.specs.Distance.{word_of, Received, Tied, change_tied, page_distance}
 use Rattle.theory.specs.Falling.{InRange, after_sized, after_tied, idle_after, falls_spent}
-use Rattle.theory.specs.Page.{received, opened_sized, opened_tied, page_falls, page_recovers}
-use Rattle.theory.specs.Runs.{range_pass, range_passes, symbols_range, covered_passes}
+use Rattle.theory.specs.Page.{received, opened_sized, opened_tied, page_falls}
+use Rattle.theory.specs.Runs.{range_pass, symbols_range}
 use Rattle.theory.specs.Schedule.{minima, idle_run}
 use Rattle.theory.specs.Steps.{SymbolsBelow, Sized, change_sized, change_weight}
 
@@ -97,14 +95,3 @@ module _ (c : Code) (l : Usable c) (page : List ℕ) (whole : SymbolsBelow c.q (
   code_minima z ts =
       let js : List ℕ = data_symbols c in
       idle_run c.q (checks_of c) js (opened c page) (λ t. code_idle z (pass js t) (range_pass (data_count c) js t (symbols_range c))) none ts
-
-  -- demand 3, second half: passes over all data symbols, one of them with threshold h
-  pub code_recovers : (js : List ℕ) → All (λ j. j < data_count c) js → ((j : ℕ) → j < data_count c → 0 < count j js) → (ts : List ℕ) (h : ℕ) → 0 < count h ts
-      → Recovers c h page (after c.q (checks_of c) (passes js ts) (opened c page)).result
-  code_recovers js a all ts h n u sent t taken few room =
-      let vs : List Visit = passes js ts in
-      ap (λ (s : State). (after c.q (checks_of c) vs s).result) (code_opened c l.table page)
-      ∙ page_recovers (code_incidence c l) whole (encoded_symbols c u sent taken) t
-      (subst (λ (p : List ℕ). distance p page ≤ t) (taken.1 ∙ code-word c l.table u) few) (omega arith) vs (range_passes (data_count c) js a ts)
-      (λ j b. covered_passes (checks_each c) t js ts h room n j (all j b))
-      ∙ sym (encoded_data c u sent taken)

@@ -3,7 +3,6 @@ use Rattle.std.specs.Prelude.{◌≡◌, refl, List, [], ◌∷◌, ◌++◌, �
 use Rattle.std.proofs.Common.{ap, sym, ◌∙◌, subst, not-suc-le-zero, le_of_suc-le-suc, suc-ne-zero, mod-lt, mod-eq_of_lt, arith, length-set, get_or-set_same, get_or-set_other}
 use Rattle.std.proofs.Math.Nat.{suc_inj}
 use Rattle.std.proofs.Math.Decide.{ℕ_discrete}
-use Rattle.model.specs.Code.{syndrome}
 use Rattle.model.specs.Decoder.{State, change, state_weight}
 use Rattle.model.specs.Symbols.{sub, differ, count, weight, distance, Below, sum_of_first, tabulate, subtract_at}
 use Rattle.theory.specs.Counting.{same_no, differ_iff, All, Distinct, count_mem, sum_off, distinct_count}

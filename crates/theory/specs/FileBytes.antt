@@ -1,12 +1,12 @@
 -- Files of pages, law by law: bytes and entries there and back, the entries that lists give, and the rules of an entry.
 use Rattle.std.specs.Prelude.{◌≡◌, refl, Bool, true, ◌&&◌, List, [], ◌∷◌, ◌++◌, ℕ, zero, suc, ◌+◌, ◌*◌, ◌<◌, ◌≤◌, eqb, leb, length, take, drop}
-use Rattle.std.proofs.Common.{ap, sym, ◌∙◌, subst, append_assoc, arith, lit<, length-append, length-drop, length-take-le, drop_at, take-add, drop-drop, get_or-drop, leb-true, eqb-true, le-leb, eq-eqb}
-use Rattle.model.specs.Bytes.{number_of, bytes_in}
+use Rattle.std.proofs.Common.{ap, sym, ◌∙◌, subst, arith, lit<, length-append, length-drop, length-take-le, take-add, drop-drop, get_or-drop, leb-true, eqb-true, le-leb, eq-eqb}
+use Rattle.model.specs.Bytes.{bytes_in}
 use Rattle.model.specs.Calls.{within}
 use Rattle.model.specs.Symbols.{Below}
 use Rattle.theory.specs.Answers.{and_true, within_facts, within_make}
 use Rattle.theory.specs.Parts.{below_part}
-use Rattle.theory.specs.WideBytes.{number_back, bytes_back}
+use Rattle.theory.specs.WideBytes.{bytes_back}
 use Rattle.model.specs.Files.{number_at, Entry, entry_of, entry_bytes, contents_end, entry_at, entries_from, numbers_of, tops_of, sizes_of, entry_fits, entries_fit, listed_from, contents_of}
 
 -- ---- bytes
@@ -36,15 +36,6 @@ length_entry e = refl
 pub entry_same : (e : Entry) {n t o s : ℕ} → n ≡ e.number → t ≡ e.top → o ≡ e.offset → s ≡ e.size → ◌≡◌ {A = Entry} (record { number = n; top = t; offset = o; size = s }) e
 entry_same e a b c d = λ i. record { number = a i; top = b i; offset = c i; size = d i }
 
-pub entry_read : (e : Entry) (rest : List ℕ) → Small e → entry_of (entry_bytes e ++ rest) ≡ e
-unfolding entry_bytes entry_of bytes_in number_of
-entry_read e rest s =
-    let a : number_at (entry_bytes e ++ rest) 0 2 ≡ e.number = number_back 2 e.number s.number_small in
-    let b : number_at (entry_bytes e ++ rest) 2 1 ≡ e.top = number_back 1 e.top s.top_small in
-    let c : number_at (entry_bytes e ++ rest) 3 4 ≡ e.offset = number_back 4 e.offset s.offset_small in
-    let d : number_at (entry_bytes e ++ rest) 7 4 ≡ e.size = number_back 4 e.size s.size_small in
-    entry_same e a b c d
-
 pub entry_written : (bytes : List ℕ) → Below 256 bytes → 11 ≤ length bytes → entry_bytes (entry_of bytes) ≡ take 11 bytes
 unfolding entry_bytes entry_of
 entry_written bytes h fits = rw (bytes_at bytes 0 2 h (omega arith), bytes_at bytes 2 1 h (omega arith), bytes_at bytes 3 4 h (omega arith), bytes_at bytes 7 4 h (omega arith)) (sym parts)
@@ -64,20 +55,6 @@ pub length_contents : (es : List Entry) → length (contents_of es) ≡ 11 * len
 unfolding contents_of
 length_contents [] = refl
 length_contents (e ∷ es) = length-append (entry_bytes e) (contents_of es) ∙ omega (arith, length_entry e, length_contents es)
-
-pub contents_read : (es : List Entry) (pre rest : List ℕ) (place : ℕ) → length pre ≡ contents_end place → AllSmall es
-    → entries_from (pre ++ (contents_of es ++ rest)) place (length es) ≡ es
-unfolding entries_from contents_of entry_at
-contents_read [] pre rest place starts s = refl
-contents_read (e ∷ es) pre rest place starts s =
-    let whole : pre ++ ((entry_bytes e ++ contents_of es) ++ rest) ≡ (pre ++ entry_bytes e) ++ (contents_of es ++ rest) = simp append_assoc in
-    let here : entry_at (pre ++ ((entry_bytes e ++ contents_of es) ++ rest)) place ≡ e =
-    ap entry_of (drop_at pre ((entry_bytes e ++ contents_of es) ++ rest) (contents_end place) starts ∙ append_assoc (entry_bytes e) (contents_of es) rest)
-    ∙ entry_read e (contents_of es ++ rest) s.0 in
-    let next : length (pre ++ entry_bytes e) ≡ contents_end (suc place) = length-append pre (entry_bytes e) ∙ omega (arith, length_entry e, starts) in
-    let more : entries_from (pre ++ ((entry_bytes e ++ contents_of es) ++ rest)) (suc place) (length es) ≡ es =
-    ap (λ (f : List ℕ). entries_from f (suc place) (length es)) whole ∙ contents_read es (pre ++ entry_bytes e) rest (suc place) next s.1 in
-    ap (λ (x : Entry). x ∷ entries_from (pre ++ ((entry_bytes e ++ contents_of es) ++ rest)) (suc place) (length es)) here ∙ ap (λ (l : List Entry). e ∷ l) more
 
 pub contents_written : (file : List ℕ) (n place : ℕ) → Below 256 file → contents_end (place + n) ≤ length file
     → contents_of (entries_from file place n) ≡ take (11 * n) (drop (contents_end place) file)

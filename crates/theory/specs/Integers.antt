@@ -5,7 +5,6 @@ use Rattle.std.proofs.Math.Decide.{ℕ_discrete, dec_le, dec_lt}
 use Rattle.std.proofs.Math.IntN.{+ℤ_idl, +ℤ_idr, +ℤ_assoc}
 use Rattle.std.specs.Int.Signed.{lt_z, le_z, lt_z_yes, lt_z_no, ≤ℤ_refl, <ℤ-≤ℤ_trans}
 use Rattle.model.specs.Outer.{least_below}
-use Rattle.model.specs.Symbols.{choose}
 use Rattle.theory.specs.Counting.{is_true, is_false}
 use Rattle.theory.specs.Falling.{choose_case}
 

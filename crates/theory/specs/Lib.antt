@@ -1,4 +1,4 @@
--- Laws over the definitions of model; Statements has what a reviewer reads.
+-- Laws over the definitions of model; proofs/ has those that rest on a law that an edit of must-fail/ changes, and Statements, what a reviewer reads.
 pub mod Modulo
 pub mod Counting
 pub mod Voting
@@ -32,8 +32,6 @@ pub mod BitVote
 pub mod WideBytes
 pub mod WideCalls
 pub mod FileBytes
-pub mod Files
-pub mod Statements
 pub mod InBlocks
 pub mod Turns
 pub mod Written

@@ -1,4 +1,5 @@
--- The margin of a list of estimates: its range, what its ends mean, what it says of a visit, how the vote tells it; and the margins of a state.
+-- The margin of a list of estimates: where it is at most 0, what it says of a visit, how the vote tells it; and the margins of a state. proofs/Margins
+-- has its range, and what its ends mean.
 use Rattle.std.specs.Prelude.{◌≡◌, refl, ◌≢◌, ◌↔◌, false, List, [], ◌∷◌, ◌++◌, map, ℕ, zero, suc, ◌+◌, ◌≤◌, ◌<◌, eqb, ℤ, pos, neg_ℤ, length, get_or, ◌≤ℤ◌}
 use Rattle.std.proofs.Common.{sym, ap, ◌∙◌, subst, not-suc-le-zero, le_of_suc-le-suc, arith}
 use Rattle.std.proofs.Math.Decide.{ℕ_discrete, dec_le}
@@ -6,10 +7,10 @@ use Rattle.model.specs.Code.{Code, data_count, checks_of}
 use Rattle.model.specs.Decoder.{State, estimates, is_change, data_symbols, margins_of}
 use Rattle.model.specs.Symbols.{choose, count, tabulate}
 use Rattle.model.specs.Vote.{leader, lead_count, other_count, next_count, margin}
-use Rattle.theory.specs.Counting.{is_false, eqb_yes, eqb_no, same_yes, same_eq, same_le, All, misses, count_misses, count_other}
+use Rattle.theory.specs.Counting.{is_false, eqb_yes, eqb_no, same_yes, same_eq, same_le, All, count_misses}
 use Rattle.theory.specs.Distance.{length_tabulate, get_d_tabulate}
 use Rattle.theory.specs.Falling.{is_change_facts}
-use Rattle.theory.specs.Integers.{minus_le, minus_eq, whole, minus}
+use Rattle.theory.specs.Integers.{minus_le, minus}
 use Rattle.theory.specs.Turns.{tabulate_snoc}
 use Rattle.theory.specs.Voting.{lead_max, next_max, other_max, other_least, other_some, leader_mem}
 
@@ -30,45 +31,7 @@ unfolding count
 all_count v [] a = refl
 all_count v (x ∷ xs) a = omega (arith, same_yes v x (sym a.0), all_count v xs a.1)
 
--- zeros and the estimates of another value are no more than all
-pub zeros_others : (es : List ℕ) → count 0 es + other_count es 0 es ≤ length es
-zeros_others es = omega (arith, count_misses 0 es, other_least es 0 es (misses 0 es) (λ v n. count_other v 0 es n))
-
--- ---- the range
-
-pub margin_low : (es : List ℕ) → neg_ℤ (pos (length es)) ≤ℤ margin es
-unfolding margin
-margin_low es = subst (λ (z : ℤ). z ≤ℤ margin es) (minus (length es))
-    ((minus_le 0 (length es) (count 0 es) (other_count es 0 es)).1 (omega (arith, zeros_others es)))
-
-pub margin_high : (es : List ℕ) → margin es ≤ℤ pos (length es)
-unfolding margin
-margin_high es = subst (λ (z : ℤ). margin es ≤ℤ z) (whole (length es))
-    ((minus_le (count 0 es) (other_count es 0 es) (length es) 0).1 (omega (arith, zeros_others es)))
-
--- the upper end: every estimate is 0
-pub margin_top : (es : List ℕ) → (margin es ≡ pos (length es)) ↔ All (λ e. e ≡ 0) es
-unfolding margin
-margin_top es = (
-  (λ e. count_all 0 es (omega (arith, (minus_eq (count 0 es) (other_count es 0 es) (length es) 0).0 (e ∙ sym (whole (length es))), zeros_others es))),
-  (λ a.
-      (minus_eq (count 0 es) (other_count es 0 es) (length es) 0).1 (omega (arith, all_count 0 es a, zeros_others es))
-      ∙ whole (length es)),
-)
-
--- the lower end: all are one value other than 0
-pub margin_bottom : (es : List ℕ) → 0 < length es → (margin es ≡ neg_ℤ (pos (length es))) ↔ ((v : ℕ) × (v ≢ 0) × All (λ e. e ≡ v) es)
-unfolding margin
-margin_bottom es h = (
-  (λ e.
-      let d : count 0 es + length es ≡ 0 + other_count es 0 es = (minus_eq (count 0 es) (other_count es 0 es) 0 (length es)).0 (e ∙ sym (minus (length es))) in
-      let s = other_some es 0 es (omega arith) in
-      (s.0, s.1, count_all s.0 es (omega (arith, s.2, zeros_others es)))),
-  (λ p.
-      let n : count p.0 es ≡ length es = all_count p.0 es p.2 in
-      (minus_eq (count 0 es) (other_count es 0 es) 0 (length es)).1 (omega (arith, zeros_others es, other_max es 0 es p.0 p.1 (omega arith)))
-      ∙ minus (length es)),
-)
+-- ---- the sign
 
 -- at most 0: a value other than 0 has at least as many estimates
 pub margin_behind : (es : List ℕ) → 0 < length es → (margin es ≤ℤ pos 0) ↔ ((v : ℕ) × (v ≢ 0) × (count 0 es ≤ count v es))

@@ -1,27 +1,26 @@
--- The outer check: what its steps do to the distance, when there are none, and the word that keeps its rule.
-use Rattle.std.specs.Prelude.{◌≡◌, ◌≢◌, Bool, true, false, not, ◌&&◌, eqb, ltb, pos, ◌-ℤ◌, length}
+-- The outer check: what its steps leave, when there are none, and the word that keeps its rule. proofs/OuterCheck has what they do to the distance.
+use Rattle.std.specs.Prelude.{◌≡◌, ◌≢◌, Bool, true, false, not, ◌&&◌, eqb, ltb}
 use Rattle.std.proofs.Math.Path.{refl, sym, ap}
 use Rattle.std.proofs.Common.{◌∙◌, subst}
-use mathlib.Core.List.{List, [], ◌∷◌}
+use mathlib.Core.List.{List}
 use Prim.Native.Nat.{ℕ, zero, suc, ◌+◌, ◌-◌, ◌*◌, ◌/◌, ◌%◌, ◌≤◌, ◌<◌}
 use Rattle.std.proofs.Math.Nat.{mod-lt, add-mod-mod, mod-eq_of_lt}
-use Rattle.std.proofs.Math.Decide.{ℕ_discrete}
 use native.Mathlib.Omega.{arith}
 use Rattle.std.proofs.Math.Arith.{digits_lt, digits_div, digits_mod}
 use Rattle.std.proofs.Math.Dec.{ltb→lt}
 use Rattle.std.proofs.Math.ListN.{get_or}
-use Rattle.model.specs.Code.{Code, data_count, page_length, checks_each, checks_of}
-use Rattle.model.specs.Decoder.{State, estimates, change, distance_to, state_weight}
-use Rattle.model.specs.Demand.{KeepsOuter, StepAdds}
+use Rattle.model.specs.Code.{Code, data_count, page_length, checks_of}
+use Rattle.model.specs.Decoder.{State, estimates, change}
+use Rattle.model.specs.Demand.{KeepsOuter}
 use Rattle.model.specs.Outer.{part_sum, block_sum, block_count, outer_word, reliability, reliability_of, least_below, weakest, is_step, outer_step, outer_steps, step_count}
-use Rattle.model.specs.Symbols.{choose, bit, sub, count, weight, Below, sum_of_first, symbols_at}
+use Rattle.model.specs.Symbols.{choose, bit, sub, count, Below, sum_of_first}
 use Rattle.theory.specs.Answers.{BlockFits}
-use Rattle.theory.specs.Codes.{Usable, code_incidence}
-use Rattle.theory.specs.Counting.{is_false, eqb_yes, eqb_no, differ_yes, differ_no, length_symbols_at, sum_ext, misses, count_misses, count_other}
-use Rattle.theory.specs.Decoding.{OnPage, change_on, change_distance}
+use Rattle.theory.specs.Codes.{Usable}
+use Rattle.theory.specs.Counting.{is_false, eqb_yes, eqb_no, sum_ext}
+use Rattle.theory.specs.Decoding.{OnPage, change_on}
 use Rattle.theory.specs.Distance.{length_tabulate, get_d_tabulate, below_tabulate}
 use Rattle.theory.specs.Falling.{choose_case}
-use Rattle.theory.specs.Integers.{minus_lt_z, minus_eq, gained, Least, least_is}
+use Rattle.theory.specs.Integers.{minus_lt_z, Least, least_is}
 use Rattle.theory.specs.Modulo.{by_eq, sub_lt, sub_add}
 use Rattle.theory.specs.Steps.{SymbolsBelow}
 
@@ -65,32 +64,6 @@ one_no_step c i st =
     rw (minus_lt_z (count 0 es) (count e es) (count 0 es) (count e es), is_false (ltb (count 0 es + count e es) (count 0 es + count e es)) (λ t. absurd (omega (arith, ltb→lt (count 0 es + count e es) (count 0 es + count e es) t))))
     (and_false (not (eqb e 0)))
 
--- where S and D are all 0 every reliability is that of J + 1 zeros, so no block has a step
-weight_at : (s : List ℕ) → weight s ≡ 0 → (i : ℕ) → get_or s i 0 ≡ 0
-unfolding weight
-weight_at [] z i = refl
-weight_at (x ∷ xs) z zero = elim (ℕ_discrete x 0) as (λ o. x ≡ 0) [ yes e ↦ e | no n ↦ absurd (omega (arith, differ_yes x 0 n)) ]
-weight_at (x ∷ xs) z (suc i) = weight_at xs (omega arith) i
-
-clean_misses : (s : List ℕ) → ((i : ℕ) → get_or s i 0 ≡ 0) → (is : List ℕ) → misses 0 (symbols_at s is) ≡ 0
-unfolding symbols_at misses
-clean_misses s z [] = refl
-clean_misses s z (i ∷ is) = omega (arith, clean_misses s z is, differ_no 0 (get_or s i 0) (sym (z i)))
-
-clean_reliability : (c : Code) (st : State) → state_weight st ≡ 0 → (e : ℕ) → e ≢ 0 → (j : ℕ)
-    → reliability_of c e st j ≡ pos (suc (length (checks_of c j))) -ℤ pos 0
-unfolding state_weight estimates reliability misses
-clean_reliability c st z e n j =
-    let es : List ℕ = estimates (checks_of c j) j st in
-    let none : misses 0 es ≡ 0 =
-    omega (
-      arith,
-      clean_misses st.syndrome (weight_at st.syndrome (omega arith)) (checks_of c j),
-      differ_no 0 (get_or st.difference j 0) (sym (weight_at st.difference (omega arith) j)),
-    ) in
-    (minus_eq (count 0 es) (count e es) (suc (length (checks_of c j))) 0).1
-    (omega (arith, count_misses 0 es, length_symbols_at st.syndrome (checks_of c j), count_other e 0 es n))
-
 -- ---- steps
 
 module _ (c : Code) (L : ℕ) (fits : BlockFits c L) where
@@ -101,32 +74,14 @@ module _ (c : Code) (L : ℕ) (fits : BlockFits c L) where
   pub place_below : (i p : ℕ) → i < block_count c L → p < L → i * L + p < data_count c
   place_below i p hi hp = subst (λ (n : ℕ). i * L + p < n) fits.divides (digits_lt hi hp)
 
-  weakest_below : (i e : ℕ) (st : State) → i < block_count c L → weakest c L i e st < data_count c
+  pub weakest_below : (i e : ℕ) (st : State) → i < block_count c L → weakest c L i e st < data_count c
   unfolding weakest
   weakest_below i e st h = place_below i _ h (omega (arith, (weakest_least i e st).below))
 
   module _ (l : Usable c) (page : List ℕ) (whole : SymbolsBelow c.q (page_length c) page) where
-    sum_below : (u : List ℕ) (i : ℕ) → block_sum c.q L u i < c.q
+    pub sum_below : (u : List ℕ) (i : ℕ) → block_sum c.q L u i < c.q
     unfolding part_sum
     sum_below u i = mod-lt (sum_of_first L (λ p. get_or u (i * L + p) 0)) (omega (arith, l.q_low))
-
-    pub clean_no_step : (i : ℕ) → i < block_count c L → (st : State) → state_weight st ≡ 0 → is_step c L i st ≡ false
-    unfolding is_step
-    clean_no_step i h st z =
-        let e : ℕ = block_sum c.q L st.result i in
-        let size = (code_incidence c l).size in
-        elim (ℕ_discrete e 0) as (λ x. is_step c L i st ≡ false) [
-          | yes y ↦ zero_no_step c L i st y
-          | no n ↦ rw (
-            eqb_no e 0 n,
-            clean_reliability c st z e n (weakest c L i e st),
-            clean_reliability c st z e n (i * L + (L - 1)),
-            size (weakest c L i e st) (weakest_below i e st h),
-            size (i * L + (L - 1)) (place_below i (L - 1) h (omega (arith, fits.low))),
-            minus_lt_z (suc (checks_each c)) 0 (suc (checks_each c)) 0,
-          )
-              (is_false (ltb (suc (checks_each c) + 0) (suc (checks_each c) + 0)) (λ t. absurd (omega (arith, ltb→lt (suc (checks_each c) + 0) (suc (checks_each c) + 0) t))))
-        ]
 
     step_on : (i : ℕ) → i < block_count c L → (st : State) → OnPage c page st → OnPage c page (outer_step c L i st)
     step_on i h st p = go (is_step c L i st) refl
@@ -141,19 +96,6 @@ module _ (c : Code) (L : ℕ) (fits : BlockFits c L) where
     unfolding outer_steps
     steps_on zero h st p = p
     steps_on (suc n) h st p = step_on n h (outer_steps c L n st) (steps_on n (omega arith) st p)
-
-    -- a step adds exactly its reliability to the distance
-    pub step_adds : (i : ℕ) → i < block_count c L → (st : State) → OnPage c page st → StepAdds c L page i st
-    unfolding reliability
-    step_adds i h st p =
-        let e : ℕ = block_sum c.q L st.result i in
-        let j : ℕ = weakest c L i e st in
-        record {
-          added = (λ y. rw (step_yes c L i st y)
-              (gained (distance_to c page st) (distance_to c page (change c.q (checks_of c j) j e st)) (count 0 (estimates (checks_of c j) j st)) (count e (estimates (checks_of c j) j st))
-              (change_distance c l page whole j e (weakest_below i e st h) (sum_below st.result i) st p)));
-          left = step_no c L i st;
-        }
 
 pub steps_few : (c : Code) (L n : ℕ) (st : State) → step_count c L n st ≤ n
 unfolding step_count

@@ -1,25 +1,22 @@
--- Demand 3, second half: within the bound the decoder restores what was sent.
-use Rattle.std.specs.Prelude.{◌≡◌, refl, ◌≢◌, ◌⊎◌, Bool, false, T, length}
+-- Demand 3, second half: no more estimates miss an error than symbols were replaced; proofs/Recovery has what follows.
+use Rattle.std.specs.Prelude.{◌≡◌, refl, ◌≢◌, ◌⊎◌, Bool, false}
 use Rattle.std.proofs.Math.Path.{ap, sym, subst}
-use Rattle.std.proofs.Common.{◌∙◌, T_not, get_or-set_other, ext_get_or}
+use Rattle.std.proofs.Common.{◌∙◌, get_or-set_other}
 use Rattle.std.proofs.Math.Logic.{inl, inr}
 use mathlib.Core.List.{List, [], ◌∷◌}
-use Prim.Native.Nat.{ℕ, suc, ◌+◌, ◌*◌, ◌%◌, ◌≤◌, ◌<◌}
+use Prim.Native.Nat.{ℕ, ◌+◌, ◌*◌, ◌%◌, ◌≤◌, ◌<◌}
 use Rattle.std.proofs.Math.Nat.{mul-le-mul_left, mod-lt, mod-add-mod, add-mod-mod}
 use Rattle.std.proofs.Math.Decide.{ℕ_discrete}
 use native.Mathlib.Omega.{arith}
 use Rattle.std.proofs.Math.ListN.{get_or}
-use Rattle.std.proofs.Math.Seq.{get_or-set_same}
-use Rattle.model.specs.Code.{syndrome, shared}
-use Rattle.model.specs.Decoder.{State, Visit, estimates, is_change, change, changes, visit, after}
+use Rattle.model.specs.Decoder.{State, Visit, estimates, is_change, change, changes, visit}
 use Rattle.model.specs.Symbols.{choose, sub, differ, count, distance, sum_over, sum_of_first, tabulate}
-use Rattle.model.specs.Vote.{leader, votes}
-use Rattle.theory.specs.Counting.{differ_no, differ_yes, length_symbols_at, sum_ext, sum_le, sum_off, sum_term, sum_over_le, sum_over_add, sum_over_swap, sum_over_scale, distance_sum, differ_le, distinct_count, sum_over_sub, all_of, all_at, misses, misses_symbols_at}
+use Rattle.model.specs.Vote.{leader}
+use Rattle.theory.specs.Counting.{differ_no, differ_yes, sum_ext, sum_le, sum_off, sum_term, sum_over_le, sum_over_add, sum_over_swap, sum_over_scale, distance_sum, differ_le, distinct_count, sum_over_sub, all_of, all_at, misses, misses_symbols_at}
 use Rattle.theory.specs.Distance.{length_tabulate, get_d_tabulate, check_symbols_of, Tied, Received}
-use Rattle.theory.specs.Falling.{Incidence, InRange, choose_case, is_change_make, is_change_zero, visit_sized, visit_tied}
-use Rattle.theory.specs.Modulo.{by_eq, sub_self, sub_zero_eq, sub_cross, sub_sub}
+use Rattle.theory.specs.Falling.{Incidence, choose_case}
+use Rattle.theory.specs.Modulo.{by_eq, sub_cross}
 use Rattle.theory.specs.Steps.{check_sum, SymbolsBelow, Sized}
-use Rattle.theory.specs.Voting.{majority, majority_next}
 
 -- each symbol of the result is the one sent or the one received
 abbrev pub SentOrReceived : ℕ → List ℕ → List ℕ → List ℕ → Type 0
@@ -143,40 +140,6 @@ module _ {q m k J : ℕ} {checks : ℕ → List ℕ} {u x y : List ℕ} (sent : 
       ) in
       omega (arith, misses_symbols_at err st.syndrome is)
 
-  -- ---- within the bound: at most t replaced, and 2 t at most J
-
-  module _ (t : ℕ) (few : error_count q m k checks u x y ≤ t) (room : t + t ≤ J) where
-    es_len : length (estimates (checks j) j st) ≡ suc J
-    unfolding estimates
-    es_len = ap suc (length_symbols_at st.syndrome (checks j) ∙ sent.inc.size j hj)
-
-    es_misses : misses (error_of q u st.result j) (estimates (checks j) j st) ≤ t
-    es_misses = omega (arith, misses_errors)
-
-    -- the vote finds the error
-    pub leader_error : leader (estimates (checks j) j st) ≡ error_of q u st.result j
-    leader_error = majority (estimates (checks j) j st) (error_of q u st.result j) J t es_len es_misses room
-
-    -- a right symbol is left alone, at any threshold
-    pub right_stays : get_or st.result j 0 ≡ get_or u j 0 → (h : ℕ) → is_change h (estimates (checks j) j st) ≡ false
-    right_stays e h = is_change_zero h (estimates (checks j) j st)
-        (leader_error ∙ ap (λ (z : ℕ). sub q z (get_or u j 0)) e ∙ sub_self q sent.inc.pos (get_or u j 0) (sent.word.low j))
-
-    -- a wrong symbol is changed, at a threshold within the bound
-    pub wrong_changes : get_or st.result j 0 ≢ get_or u j 0 → (h : ℕ) → t + t + h ≤ J → T (is_change h (estimates (checks j) j st))
-    wrong_changes n h b =
-        let p = majority_next (estimates (checks j) j st) (error_of q u st.result j) J t es_len es_misses room in
-        is_change_make h (estimates (checks j) j st) (omega (arith, p.0, p.1))
-        (λ e. n (sub_zero_eq q sent.inc.pos (get_or st.result j 0) (get_or u j 0) (fits.sized.in_result j) (sent.word.low j) (sym leader_error ∙ e)))
-
-    -- any change restores
-    pub change_restores : get_or (change q (checks j) j (leader (estimates (checks j) j st)) st).result j 0 ≡ get_or u j 0
-    unfolding change
-    change_restores =
-        get_or-set_same st.result j (sub q (get_or st.result j 0) (leader (estimates (checks j) j st))) 0 (rw fits.sized.len_result hj)
-        ∙ ap (λ (z : ℕ). sub q (get_or st.result j 0) z) leader_error
-        ∙ sub_sub q sent.inc.pos (get_or st.result j 0) (get_or u j 0) (fits.sized.in_result j) (sent.word.low j)
-
 -- a visit leaves the other symbols
 pub visit_other : (q : ℕ) (checks : ℕ → List ℕ) (v : Visit) (st : State) (l : ℕ) → l ≢ v.symbol → get_or (visit q checks v st).result l 0 ≡ get_or st.result l 0
 unfolding visit changes change
@@ -193,84 +156,3 @@ same_visit b x y e = rw e refl
 abbrev pub Covered : ℕ → ℕ → List Visit → ℕ → Type 0
 Covered J t [] j = ⊥
 Covered J t (v ∷ vs) j = ((v.symbol ≡ j) × (t + t + v.threshold ≤ J)) ⊎ Covered J t vs j
-
-module _ {q m k J : ℕ} {checks : ℕ → List ℕ} {u x y : List ℕ} (sent : Sent q m k J checks u x y) (t : ℕ) (few : error_count q m k checks u x y ≤ t) (room : t + t ≤ J) where
-  -- ---- a visit
-
-  -- a right symbol is not changed: the state stays as it is
-  pub settled : (v : Visit) → v.symbol < m → (st : State) → Fits q m k checks u x y st → get_or st.result v.symbol 0 ≡ get_or u v.symbol 0 → visit q checks v st ≡ st
-  unfolding visit changes
-  settled v hj st f e =
-      same_visit (is_change v.threshold (estimates (checks v.symbol) v.symbol st))
-      (change q (checks v.symbol) v.symbol (leader (estimates (checks v.symbol) v.symbol st)) st) st
-      (right_stays sent st f v.symbol hj t few room e v.threshold)
-
-  -- what a visit leaves at its symbol: what was there, or what was sent
-  pub visited : (v : Visit) → v.symbol < m → (st : State) → Fits q m k checks u x y st
-      → (get_or (visit q checks v st).result v.symbol 0 ≡ get_or u v.symbol 0) ⊎ (visit q checks v st ≡ st)
-  unfolding visit changes
-  visited v hj st f =
-      let j : ℕ = v.symbol in
-      let es : List ℕ = estimates (checks j) j st in
-      choose_case (λ b s. (get_or s.result j 0 ≡ get_or u j 0) ⊎ (s ≡ st)) (is_change v.threshold es) (change q (checks j) j (leader es) st) st
-      (λ c. inl (change_restores sent st f j hj t few room))
-      (λ c. inr refl)
-
-  -- at a threshold within the bound it is what was sent
-  pub restored : (v : Visit) → v.symbol < m → t + t + v.threshold ≤ J → (st : State) → Fits q m k checks u x y st
-      → get_or (visit q checks v st).result v.symbol 0 ≡ get_or u v.symbol 0
-  unfolding visit changes
-  restored v hj b st f =
-      let j : ℕ = v.symbol in
-      let es : List ℕ = estimates (checks j) j st in
-      choose_case (λ b s. get_or s.result j 0 ≡ get_or u j 0) (is_change v.threshold es) (change q (checks j) j (leader es) st) st
-      (λ c. change_restores sent st f j hj t few room)
-      (λ c. elim (ℕ_discrete (get_or st.result j 0) (get_or u j 0)) as (λ o. get_or st.result j 0 ≡ get_or u j 0) [
-        | yes e ↦ e
-        | no n ↦ absurd (T_not (is_change v.threshold es) c
-            (wrong_changes sent st f j hj t few room n v.threshold b))
-      ])
-
-  -- a right symbol stays right
-  pub keeps : (v : Visit) → v.symbol < m → (st : State) → Fits q m k checks u x y st → (l : ℕ) → get_or st.result l 0 ≡ get_or u l 0
-      → get_or (visit q checks v st).result l 0 ≡ get_or u l 0
-  keeps v hj st f l e = elim (ℕ_discrete l v.symbol) as (λ o. get_or (visit q checks v st).result l 0 ≡ get_or u l 0) [
-    | yes p ↦ ap (λ (s : State). get_or s.result l 0) (settled v hj st f (subst (λ (i : ℕ). get_or st.result i 0 ≡ get_or u i 0) p e)) ∙ e
-    | no n ↦ visit_other q checks v st l n ∙ e
-  ]
-
-  pub visit_fits : (v : Visit) → v.symbol < m → (st : State) → Fits q m k checks u x y st → Fits q m k checks u x y (visit q checks v st)
-  visit_fits v hj st f = record {
-    sized = visit_sized sent.inc v st f.sized;
-    tied = visit_tied sent.inc sent.page v hj st f.sized f.tied;
-    good = (λ l hl. elim (ℕ_discrete l v.symbol) as (λ o. (get_or (visit q checks v st).result l 0 ≡ get_or u l 0) ⊎ (get_or (visit q checks v st).result l 0 ≡ get_or x l 0)) [
-      | yes p ↦ elim (visited v hj st f) as (λ o. (get_or (visit q checks v st).result l 0 ≡ get_or u l 0) ⊎ (get_or (visit q checks v st).result l 0 ≡ get_or x l 0))
-          [ inl e ↦ inl (rw p e) | inr e ↦ rw e (f.good l hl) ]
-      | no n ↦ rw (visit_other q checks v st l n) (f.good l hl)
-    ]);
-  }
-
-  -- ---- a run
-
-  pub after_fits : (vs : List Visit) → InRange m vs → (st : State) → Fits q m k checks u x y st → Fits q m k checks u x y (after q checks vs st)
-  unfolding after
-  after_fits [] r st f = f
-  after_fits (v ∷ vs) r st f = after_fits vs r.1 (visit q checks v st) (visit_fits v r.0 st f)
-
-  pub after_restores : (vs : List Visit) → InRange m vs → (st : State) → Fits q m k checks u x y st → (j : ℕ) → Covered J t vs j ⊎ (get_or st.result j 0 ≡ get_or u j 0)
-      → get_or (after q checks vs st).result j 0 ≡ get_or u j 0
-  unfolding after
-  after_restores [] r st f j (inl c) = absurd c
-  after_restores [] r st f j (inr e) = e
-  after_restores (v ∷ vs) r st f j (inl (inl c)) =
-      after_restores vs r.1 (visit q checks v st) (visit_fits v r.0 st f) j
-      (inr (subst (λ (i : ℕ). get_or (visit q checks v st).result i 0 ≡ get_or u i 0) c.0 (restored v r.0 c.1 st f)))
-  after_restores (v ∷ vs) r st f j (inl (inr c)) = after_restores vs r.1 (visit q checks v st) (visit_fits v r.0 st f) j (inl c)
-  after_restores (v ∷ vs) r st f j (inr e) = after_restores vs r.1 (visit q checks v st) (visit_fits v r.0 st f) j (inr (keeps v r.0 st f j e))
-
-  -- a run that visits each symbol at a threshold within the bound hands back what was sent
-  pub recovers : (vs : List Visit) → InRange m vs → (st : State) → Fits q m k checks u x y st → ((j : ℕ) → j < m → Covered J t vs j) → (after q checks vs st).result ≡ u
-  recovers vs r st f c =
-      let g = after_fits vs r st f in
-      ext_get_or 0 (after q checks vs st).result u (g.sized.len_result ∙ sym sent.word.len)
-      (λ i l. after_restores vs r st f i (inl (c i (subst (λ (n : ℕ). i < n) g.sized.len_result l))))

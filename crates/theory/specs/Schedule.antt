@@ -69,7 +69,7 @@ module _ (q : ℕ) (checks : ℕ → List ℕ) (js : List ℕ) where
       (λ w. (a.0, runs_of P (limit_after t st) ts a.1 st')) (λ w. runs_of P limit ts a.1 st)
 
   -- a threshold that the limit allows is run, where none of the list is smaller
-  least_run : (h : ℕ) (limit : Limit) (ts : List ℕ) (st : State) → allows limit h ≡ true → ((x : ℕ) → 0 < count x ts → h ≤ x) → 0 < count h ts
+  pub least_run : (h : ℕ) (limit : Limit) (ts : List ℕ) (st : State) → allows limit h ≡ true → ((x : ℕ) → 0 < count x ts → h ≤ x) → 0 < count h ts
       → 0 < count h (thresholds_run q checks js limit ts st)
   unfolding thresholds_run
   least_run h limit [] st a l n = absurd (omega (arith, count_nil h))
@@ -89,11 +89,6 @@ module _ (q : ℕ) (checks : ℕ → List ℕ) (js : List ℕ) where
             (λ w. omega (arith, count_cons h t later, least_run h (limit_after t st) ts st' (smaller_allowed h t below (is_idle q checks js t st)) tail rest))
             (λ w. least_run h limit ts st a tail rest)
       ]
-
-  -- so the smallest is always run
-  pub smallest_run : (ts : List ℕ) (st : State) → 0 < length ts → 0 < count (smallest ts) (thresholds_run q checks js none ts st)
-  unfolding allows
-  smallest_run ts st h = least_run (smallest ts) none ts st refl (smallest_least ts) (smallest_in ts h)
 
   -- a limit skips to the first threshold below it
   skips : (n : ℕ) (ts : List ℕ) (st : State) → thresholds_run q checks js (under n) ts st ≡ thresholds_run q checks js none (first_smaller n ts) st

@@ -1,10 +1,8 @@
 -- The decoder's steps over any incidence of data symbols and checks: lengths and ranges, and what a change does to the weight of a state.
 use Rattle.std.specs.Prelude.{◌≡◌, refl, List, [], ◌∷◌, ℕ, zero, suc, ◌+◌, ◌*◌, ◌<◌, length, get_or, set}
 use Rattle.std.proofs.Common.{ap, sym, ◌∙◌, subst, arith, length-set, get_or-set_other}
-use Rattle.model.specs.Code.{syndrome}
 use Rattle.model.specs.Decoder.{State, estimates, change, state_weight}
 use Rattle.model.specs.Symbols.{sub, differ, count, weight, Below, sum_of_first, symbols_at, subtract_at}
-use Rattle.model.specs.Vote.{other_count}
 use Rattle.theory.specs.Counting.{same_differ, differ_iff, All, Distinct, zeros_weight, weight_set, count_mem}
 use Rattle.theory.specs.Modulo.{sub_lt, sub_self, sub_zero_eq}
 

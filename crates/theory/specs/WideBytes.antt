@@ -1,13 +1,11 @@
 -- Wide symbols as bytes: what is written reads back, and what is read is as long as the bytes and below 256 to the number of a symbol's bytes.
-use Rattle.std.specs.Prelude.{◌≡◌, Bool, true, false, ℕ, zero, suc, ◌+◌, ◌*◌, ◌/◌, ◌%◌, ◌^◌, ◌≤◌, ◌<◌, eqb, set, take, drop}
+use Rattle.std.specs.Prelude.{◌≡◌, Bool, true, false, ℕ, zero, suc, ◌+◌, ◌*◌, ◌/◌, ◌%◌, ◌^◌, ◌≤◌, ◌<◌, eqb, take, drop}
 use Rattle.std.proofs.Math.Path.{refl, ap, sym, subst}
-use Rattle.std.proofs.Common.{◌∙◌, pow-suc, zero-mul, zero-add, mul-le-mul_right, zero-lt-suc, le_trans, arith, take-append-drop, length-take, length-drop, take-add, drop-drop, length-take-le, get_or-drop}
-use mathlib.Core.List.{List, [], ◌∷◌, ◌++◌, append_assoc}
+use Rattle.std.proofs.Common.{◌∙◌, pow-suc, zero-mul, zero-lt-suc, le_trans, arith, take-append-drop, length-take, length-drop, drop-drop, length-take-le, get_or-drop}
+use mathlib.Core.List.{List, [], ◌∷◌, ◌++◌}
 use Rattle.std.proofs.Math.Nat.{pow-zero, suc-mul, mul-mod_left, mul-div_cancel, div-add-mod', div-div-eq-div-mul, pow-le-pow_right}
 use Rattle.std.proofs.Math.Decide.{ℕ_discrete}
 use Rattle.std.proofs.Math.ListN.{length, get_or, length-append}
-use Rattle.std.proofs.lemmas.List.Edits.{sets, sets-eq}
-use Rattle.std.proofs.Math.Seq.{length-sets, take_at, drop_at}
 use Rattle.model.specs.Bytes.{word_of, position_at, positions_of, number_of, bytes_in, symbols_of, symbol_bytes}
 use Rattle.model.specs.Symbols.{choose, tabulate, Below}
 use Rattle.theory.specs.Counting.{eqb_yes, eqb_no}
@@ -45,14 +43,14 @@ number_below (x ∷ xs) low = omega (arith, low 0, number_below xs (λ i. low (s
 unfoldable pub first_of : ℕ → ℕ → List ℕ → List ℕ
 first_of n w s = tabulate n (λ i. number_of (take w (drop (i * w) s)))
 
-first_cons : (n w : ℕ) (s : List ℕ) → first_of (suc n) w s ≡ number_of (take w s) ∷ first_of n w (drop w s)
+pub first_cons : (n w : ℕ) (s : List ℕ) → first_of (suc n) w s ≡ number_of (take w s) ∷ first_of n w (drop w s)
 unfolding first_of tabulate
 first_cons n w s =
     rw (zero-mul w) (ap (λ (l : List ℕ). number_of (take w s) ∷ l)
     (tabulate_ext n (λ i. number_of (take w (drop (suc i * w) s))) (λ i. number_of (take w (drop (i * w) (drop w s))))
     (λ i h. ap (λ (l : List ℕ). number_of (take w l)) (ap (λ (m : ℕ). drop m s) (let e : suc i * w ≡ w + i * w = omega arith in e) ∙ sym (drop-drop (i * w) w s)))))
 
-first_none : (w : ℕ) (s : List ℕ) → first_of 0 w s ≡ []
+pub first_none : (w : ℕ) (s : List ℕ) → first_of 0 w s ≡ []
 unfolding first_of tabulate
 first_none w s = refl
 
@@ -92,21 +90,6 @@ module _ (w : ℕ) (pos : 0 < w) where
   written_length [] = sym (zero-mul w)
   written_length (x ∷ xs) = length-append (bytes_in w x) (symbol_bytes w xs) ∙ omega (arith, bytes_length w x, written_length xs, suc-mul (length xs) w)
 
-  first_back : (xs : List ℕ) → Below (256 ^ w) xs → first_of (length xs) w (symbol_bytes w xs) ≡ xs
-  unfolding symbol_bytes
-  first_back [] low = first_none w []
-  first_back (x ∷ xs) low =
-      first_cons (length xs) w (bytes_in w x ++ symbol_bytes w xs)
-      ∙ rw (
-        take_at (bytes_in w x) (symbol_bytes w xs) w (bytes_length w x),
-        drop_at (bytes_in w x) (symbol_bytes w xs) w (bytes_length w x),
-        number_back w x (low 0),
-        first_back xs (λ i. low (suc i)),
-      ) refl
-
-  pub symbols_back : (xs : List ℕ) → Below (256 ^ w) xs → symbols_of w (symbol_bytes w xs) ≡ xs
-  symbols_back xs low = symbols_whole (length xs) (symbol_bytes w xs) (written_length xs) ∙ first_back xs low
-
   bytes_none : (s : List ℕ) → length s ≡ 0 → symbol_bytes w [] ≡ s
   unfolding symbol_bytes
   bytes_none [] z = refl
@@ -135,42 +118,6 @@ module _ (w : ℕ) (pos : 0 < w) where
   pub symbol-at : (n : ℕ) (s : List ℕ) → length s ≡ n * w → (i : ℕ) → i < n → get_or (symbols_of w s) i 0 ≡ number_of (take w (drop (i * w) s))
   unfolding first_of
   symbol-at n s e i h = ap (λ (l : List ℕ). get_or l i 0) (symbols_whole n s e) ∙ get_d_tabulate n (λ l. number_of (take w (drop (l * w) s))) i h
-
-  written_first : (n i : ℕ) (s bs : List ℕ) → i < n → length s ≡ n * w → length bs ≡ w
-      → first_of n w (take (i * w) s ++ bs ++ drop (i * w + w) s) ≡ set (first_of n w s) i (number_of bs)
-  written_first zero i s bs h e l = absurd (omega arith)
-  written_first (suc n) zero s bs h e l =
-      ap (first_of (suc n) w) (let z : take (0 * w) s ++ bs ++ drop (0 * w + w) s ≡ bs ++ drop w s = rw (zero-mul w, zero-add w) refl in z)
-      ∙ first_cons n w (bs ++ drop w s)
-      ∙ rw (take_at bs (drop w s) w l, drop_at bs (drop w s) w l) (sym (ap (λ (v : List ℕ). set v 0 (number_of bs)) (first_cons n w s)))
-  written_first (suc n) (suc i) s bs h e l =
-      let room : w ≤ length s = omega (arith, suc-mul n w) in
-      let rest : List ℕ = take (i * w) (drop w s) ++ bs ++ drop (i * w + w) (drop w s) in
-      let a : take (suc i * w) s ≡ take w s ++ take (i * w) (drop w s) = ap (λ (m : ℕ). take m s) (let z : suc i * w ≡ w + i * w = omega arith in z) ∙ take-add w (i * w) s in
-      let b : drop (suc i * w + w) s ≡ drop (i * w + w) (drop w s) =
-      ap (λ (m : ℕ). drop m s) (let z : suc i * w + w ≡ w + (i * w + w) = omega arith in z) ∙ sym (drop-drop (i * w + w) w s) in
-      let whole : take (suc i * w) s ++ bs ++ drop (suc i * w + w) s ≡ take w s ++ rest =
-      rw (a, b) (ap (λ (v : List ℕ). v ++ drop (i * w + w) (drop w s)) (append_assoc (take w s) (take (i * w) (drop w s)) bs)
-      ∙ append_assoc (take w s) (take (i * w) (drop w s) ++ bs) (drop (i * w + w) (drop w s))) in
-      ap (first_of (suc n) w) whole
-      ∙ first_cons n w (take w s ++ rest)
-      ∙ rw (
-        take_at (take w s) rest w (length-take-le w s room),
-        drop_at (take w s) rest w (length-take-le w s room),
-        written_first n i (drop w s) bs (omega arith) (length-drop w s ∙ omega (arith, suc-mul n w)) l,
-      )
-      (sym (ap (λ (v : List ℕ). set v (suc i) (number_of bs)) (first_cons n w s)))
-
-  -- a store of its bytes is a store of the symbol
-  pub symbol_set : (n : ℕ) (s : List ℕ) → length s ≡ n * w → (i x : ℕ) → i < n → x < 256 ^ w → symbols_of w (sets s (i * w) (bytes_in w x)) ≡ set (symbols_of w s) i x
-  symbol_set n s e i x h low =
-      let bs : List ℕ = bytes_in w x in
-      let sized = bytes_length w x in
-      let room : i * w + w ≤ length s = omega (arith, mul-le-mul_right w (let z : suc i ≤ n = omega arith in z), suc-mul i w) in
-      symbols_whole n (sets s (i * w) bs) (length-sets s (i * w) bs ∙ e)
-      ∙ ap (first_of n w) (sets-eq bs s (i * w) (omega (arith, sized)) ∙ ap (λ (m : ℕ). take (i * w) s ++ bs ++ drop (i * w + m) s) sized)
-      ∙ written_first n i s bs h e sized
-      ∙ rw (symbols_whole n s e, number_back w x low) refl
 
 -- ---- the range
 

@@ -1,5 +1,5 @@
 -- The C calls on wide symbols: tests 1 and 7 cannot apply, test 6 counts bytes, and what is left is bytes.
-use Rattle.std.specs.Prelude.{◌≡◌, refl, Bool, true, false, not, ◌&&◌, List, [], ◌∷◌, ◌++◌, ℕ, ◌+◌, ◌*◌, ◌^◌, ◌<◌, ltb, length}
+use Rattle.std.specs.Prelude.{◌≡◌, refl, Bool, true, false, not, ◌&&◌, List, [], ◌∷◌, ◌++◌, ℕ, ◌*◌, ◌^◌, ◌<◌, ltb, length}
 use Rattle.std.proofs.Math.Path.{ap}
 use Rattle.std.proofs.Common.{sym, ◌∙◌, subst, append-nil, append_assoc, mul-le-mul, arith}
 use Rattle.std.proofs.Math.Decide.{ℕ_discrete}

@@ -1,5 +1,5 @@
 -- When a received page is a code word: its syndrome is 0, it is at distance 0, and encode writes it.
-use Rattle.std.specs.Prelude.{◌≡◌, refl, ◌↔◌, ℕ, zero, suc, ◌+◌, length}
+use Rattle.std.specs.Prelude.{◌≡◌, refl, ◌↔◌, ℕ, zero, suc, length}
 use Rattle.std.proofs.Math.Path.{ap, sym}
 use Rattle.std.proofs.Common.{◌∙◌, suc-ne-zero, arith}
 use mathlib.Core.List.{List, [], ◌∷◌}
@@ -8,7 +8,7 @@ use Rattle.model.specs.Calls.{table_answer}
 use Rattle.model.specs.Code.{Code, data_count, page_length, code_word, syndrome, data_of}
 use Rattle.model.specs.Decoder.{opened, after, distance_to, state_weight}
 use Rattle.model.specs.Demand.{Encodes}
-use Rattle.model.specs.Symbols.{differ, weight, distance, tabulate}
+use Rattle.model.specs.Symbols.{weight, distance, tabulate}
 use Rattle.theory.specs.Answers.{encode_accepts, encoded_data}
 use Rattle.theory.specs.Codes.{Usable}
 use Rattle.theory.specs.Counting.{differ_yes, differ_no, All, zeros_weight}

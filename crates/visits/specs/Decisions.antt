@@ -5,7 +5,7 @@ use Rattle.std.proofs.Math.Decide.{ℕ_discrete}
 use Rattle.model.specs.Decoder.{is_change}
 use Rattle.model.specs.Symbols.{choose, bit, count, Below}
 use Rattle.model.specs.Vote.{leader, lead_count, next_count}
-use Rattle.theory.specs.BitVote.{change_one}
+use Rattle.theory.proofs.BitVote.{change_one}
 use Rattle.theory.specs.Counting.{is_true, is_false, count_misses, count_other}
 use Rattle.theory.specs.Falling.{choose_case, is_change_facts, is_change_make, is_change_zero}
 use Rattle.theory.specs.Voting.{leader_below, next_max}

@@ -4,7 +4,7 @@ use Rattle.std.proofs.Common.{ap, sym, ◌∙◌, arith, ltb-true, lt-ltb}
 use Rattle.model.specs.Code.{Code, data_count, checks_each, checks_of}
 use Rattle.model.specs.Decoder.{is_change}
 use Rattle.model.specs.Symbols.{count, symbols_at, Below}
-use Rattle.theory.specs.BitVote.{change_zeros}
+use Rattle.theory.proofs.BitVote.{change_zeros}
 use Rattle.theory.specs.Codes.{Usable, code_incidence}
 use Rattle.theory.specs.Counting.{count_cons, length_symbols_at}
 use Rattle.checks.specs.Estimates.{estimates_at}

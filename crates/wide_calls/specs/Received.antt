@@ -14,7 +14,7 @@ use Rattle.theory.specs.Decoding.{OnPage, on_distance, code_on}
 use Rattle.theory.specs.Falling.{InRange}
 use Rattle.theory.specs.Outcomes.{outcome_number, outcome_done}
 use Rattle.theory.specs.Runs.{range_passes, symbols_range}
-use Rattle.theory.specs.Statements.{decode_falls, decode_recovers}
+use Rattle.theory.proofs.Statements.{decode_falls, decode_recovers}
 use Rattle.theory.specs.Steps.{SymbolsBelow}
 use Rattle.correction.specs.Decoded.{decoded}
 use Rattle.margins.specs.Margins.{Left}

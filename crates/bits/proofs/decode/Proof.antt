@@ -4,7 +4,7 @@ use mathlib.Core.Bool.{true}
 use Rattle.model.specs.Code.{bit_pages, code_in}
 use Rattle.model.specs.Decoder.{state_by}
 use Rattle.theory.specs.Counters.{none_clear}
-use Rattle.theory.specs.InBlocks.{decode_done}
+use Rattle.theory.proofs.InBlocks.{decode_done}
 use Rattle.bits.proofs.decode.Statement.{statement}
 use Rattle.bits.proofs.decode.Tie as tie
 

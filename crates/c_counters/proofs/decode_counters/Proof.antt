@@ -9,7 +9,7 @@ use Rattle.model.specs.Code.{byte_pages, code_of}
 use Rattle.model.specs.Decoder.{state_by}
 use Rattle.position_bytes.specs.Reads.{decode_read}
 use Rattle.theory.specs.Counters.{clear_made, fit_clear}
-use Rattle.theory.specs.InBlocks.{c_decode_done}
+use Rattle.theory.proofs.InBlocks.{c_decode_done}
 use Rattle.c_counters.proofs.decode_counters.Statement.{statement}
 use Rattle.c_counters.proofs.decode_counters.Tie as tie
 

@@ -14,7 +14,8 @@ use Rattle.model.specs.Demand.{DecodeFalls, DecodeRecovers}
 use Rattle.params.specs.Codes.{profile_of}
 use Rattle.position_bytes.specs.Positions.{kept}
 use Rattle.position_bytes.specs.Reads.{decode_read}
-use Rattle.theory.specs.InBlocks.{c_decode_form, c_decode_done}
+use Rattle.theory.specs.InBlocks.{c_decode_form}
+use Rattle.theory.proofs.InBlocks.{c_decode_done}
 use Rattle.c_decoder.proofs.decode.Statement.{statement}
 use Rattle.c_decoder.proofs.decode.Tie as tie
 

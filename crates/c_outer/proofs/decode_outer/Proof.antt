@@ -17,7 +17,8 @@ use Rattle.params.specs.Sizes.{sizes_fit}
 use Rattle.position_bytes.specs.Positions.{kept, small_fits}
 use Rattle.position_bytes.specs.Reads.{decode_read}
 use Rattle.theory.specs.Counters.{none_clear, clear_made}
-use Rattle.theory.specs.InBlocks.{length_of, c_decode_form, c_decode_outer_done}
+use Rattle.theory.specs.InBlocks.{length_of, c_decode_form}
+use Rattle.theory.proofs.InBlocks.{c_decode_outer_done}
 use Rattle.c_outer.proofs.decode_outer.Statement.{statement}
 use Rattle.c_outer.proofs.decode_outer.Tie as tie
 

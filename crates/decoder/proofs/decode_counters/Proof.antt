@@ -6,7 +6,7 @@ use Rattle.model.specs.Calls.{decode_outcome, decode_counters_outcome}
 use Rattle.model.specs.Code.{code_of}
 use Rattle.model.specs.Decoder.{state_by}
 use Rattle.theory.specs.Counters.{fit_clear}
-use Rattle.theory.specs.InBlocks.{decode_done}
+use Rattle.theory.proofs.InBlocks.{decode_done}
 use Rattle.decoder.proofs.decode_counters.Statement.{statement}
 use Rattle.decoder.proofs.decode_counters.Tie as tie
 

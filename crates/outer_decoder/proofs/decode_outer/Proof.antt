@@ -6,7 +6,8 @@ use Prim.Native.Nat.{ℕ}
 use Rattle.model.specs.Code.{code_of}
 use Rattle.model.specs.Decoder.{state_by}
 use Rattle.theory.specs.Counters.{none_clear}
-use Rattle.theory.specs.InBlocks.{decode_form, decode_outer_done}
+use Rattle.theory.specs.InBlocks.{decode_form}
+use Rattle.theory.proofs.InBlocks.{decode_outer_done}
 use Rattle.outer_decoder.proofs.decode_outer.Statement.{statement}
 use Rattle.outer_decoder.proofs.decode_outer.Tie as tie
 

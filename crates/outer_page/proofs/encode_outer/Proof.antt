@@ -14,7 +14,7 @@ use Rattle.model.specs.Demand.{EncodesOuter}
 use Rattle.theory.specs.Answers.{BlockFits, and_true, eqb-true, page_taken, page_bytes, encode_symbols, encode_outer_taken}
 use Rattle.theory.specs.Codes.{Usable, ByteCode}
 use Rattle.theory.specs.Outcomes.{left_as_lent, left_as_done}
-use Rattle.theory.specs.Statements.{outer_encodes}
+use Rattle.theory.proofs.Statements.{outer_encodes}
 use Rattle.theory.specs.Steps.{SymbolsBelow}
 use Rattle.params.specs.Sizes.{sizes_fit}
 use Rattle.codeword.specs.Checks.{behind_length, page_written}

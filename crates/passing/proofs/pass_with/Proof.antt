@@ -16,7 +16,7 @@ use Rattle.tally.specs.declared.Tally.{Tally}
 use Rattle.theory.specs.Answers.{PassTaken, pass_taken, table_usable}
 use Rattle.theory.specs.Counters.{none_clear, clear_front}
 use Rattle.theory.specs.Outcomes.{left_as_lent, left_as_done}
-use Rattle.theory.specs.Statements.{pass_falls}
+use Rattle.theory.proofs.Statements.{pass_falls}
 use Rattle.passing.specs.Once.{taken_ready, once_state, once_changes}
 use Rattle.passing.proofs.pass_with.Statement.{statement}
 use Rattle.passing.proofs.pass_with.Tie as tie

@@ -20,7 +20,7 @@ use Rattle.theory.specs.Answers.{PassTaken, pass_taken, table_usable}
 use Rattle.theory.specs.Counters.{clear_front}
 use Rattle.theory.specs.Outcomes.{left_as_lent, left_as_done}
 use Rattle.theory.specs.Profiles.{state_low}
-use Rattle.theory.specs.Statements.{pass_falls}
+use Rattle.theory.proofs.Statements.{pass_falls}
 use Rattle.passing32.proofs.pass_with.Statement.{statement}
 use Rattle.passing32.proofs.pass_with.Tie as tie
 

@@ -1,7 +1,7 @@
 -- `most_other`: the count is at most the number of estimates, and so fits in a byte.
 use borrow.Author.Rules.{rules}
 use native.Mathlib.Omega.{arith}
-use Rattle.theory.specs.Margins.{zeros_others}
+use Rattle.theory.proofs.Margins.{zeros_others}
 use Rattle.wide_vote.proofs.most_other.Statement.{statement}
 use Rattle.wide_vote.proofs.most_other.Tie as tie
 

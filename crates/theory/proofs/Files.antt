@@ -11,11 +11,12 @@ use Rattle.std.proofs.Math.Seq.{drop_at}
 use Rattle.model.specs.Bytes.{number_of, bytes_in}
 use Rattle.model.specs.Calls.{within, Outcome, outcome}
 use Rattle.model.specs.Symbols.{choose, Below}
+use Rattle.model.specs.Files.{Entry, entry_of, count_of, contents_end, entry_at, entries_from, entries_of, bodies_in, numbers_of, tops_of, sizes_of, total, entries_fit, symbols_fit, read_tests, read_answer, no_entry, part_of, read_outcome, read_body, Listing, listed_from, page_count, listed, contents_of, file_of, file_length, lists_agree, write_tests, write_answer, Written, filled, write_outcome, Writable, start_listed, body_listed, entry_listed, ReadsBack, KeepsRest}
 use Rattle.theory.specs.Answers.{and_true, passed_by, taken_by, nothing_applies, within_facts, within_make}
+use Rattle.theory.specs.FileBytes.{below_drop, bytes_at, AllSmall, length_contents, contents_written, length_listed, numbers_listed, tops_listed, sizes_listed, and_make, fit_cons, listed_again, fit_small}
 use Rattle.theory.specs.Outcomes.{left_as_done}
 use Rattle.theory.specs.WideBytes.{bytes_length, number_back}
-use Rattle.model.specs.Files.{Entry, entry_of, count_of, contents_end, entry_at, entries_from, entries_of, bodies_in, numbers_of, tops_of, sizes_of, total, entries_fit, symbols_fit, read_tests, read_answer, no_entry, part_of, read_outcome, read_body, Listing, listed_from, page_count, listed, contents_of, file_of, file_length, lists_agree, write_tests, write_answer, Written, filled, write_outcome, Writable, start_listed, body_listed, entry_listed, ReadsBack, KeepsRest}
-use Rattle.theory.specs.FileBytes.{below_drop, bytes_at, AllSmall, length_contents, contents_read, contents_written, length_listed, numbers_listed, tops_listed, sizes_listed, and_make, fit_cons, listed_again, fit_small}
+use Rattle.theory.proofs.FileBytes.{contents_read}
 
 -- ---- what an answer of 0 says
 

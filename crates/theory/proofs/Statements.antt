@@ -21,33 +21,39 @@ use Rattle.model.specs.Outer.{block_sum, block_count, outer_word, reliability_of
 use Rattle.model.specs.Symbols.{choose, add, sub, same, count, tabulate, add_each, sub_each, Below}
 use Rattle.model.specs.Vote.{leader, lead_count, next_count, votes, votes_read, counted, margin, ground_of, equal_bits, gathered, zeros_in, ones_decide, bit_votes}
 use Rattle.theory.specs.Answers.{table_accepted, table_accepts, table_usable, Opens, Taken, decode_taken, decode_opens, open_taken, pass_taken, explain_takes, explain_taken, BlockFits, encode_outer_taken, encode_symbols, encode_takes, encoded_data, decode_outer_taken}
-use Rattle.theory.specs.BitVote.{add-bits, sub_bits, turned_over, word_ones, word_zeros, vote_bits, change_bits, margin_bits, equal-bits, visit_bits, visit_zeros}
-use Rattle.theory.specs.Branches.{orthogonal_differences}
+use Rattle.theory.specs.BitVote.{add-bits, sub_bits, turned_over}
 use Rattle.theory.specs.BlockSums.{sum_before, sum_made, sum_left}
+use Rattle.theory.specs.Branches.{orthogonal_differences}
 use Rattle.theory.specs.Codes.{Usable, code_incidence, check-symbol, check-symbols}
-use Rattle.theory.specs.Counting.{eqb_yes, eqb_no, All, length_symbols_at, count_misses}
 use Rattle.theory.specs.Counters.{length_counted, counted-at, votes_counted}
-use Rattle.theory.specs.Decoding.{OnPage, on_distance, code_on, code_falls, code_received, code_opened_sized, code_sized, code_distance, code_idle, code_recovers, code_minima}
+use Rattle.theory.specs.Counting.{eqb_yes, eqb_no, All, length_symbols_at, count_misses}
+use Rattle.theory.specs.Decoding.{OnPage, on_distance, code_on, code_falls, code_received, code_opened_sized, code_sized, code_distance, code_idle, code_minima}
 use Rattle.theory.specs.Distance.{length_tabulate, tabulate_ext}
 use Rattle.theory.specs.Explaining.{Ground, ground_is, bits_at, bits_ones, bits_below}
 use Rattle.theory.specs.Falling.{InRange, visit_no, visit_yes, weight_falls, unchanged, falls_spent, changes_spent, falls_at}
-use Rattle.theory.specs.Files.{readable_writable, reads_back, listing_unique, rest_kept, found_inside, read_some, write_some}
 use Rattle.theory.specs.Integers.{Least}
-use Rattle.theory.specs.Margins.{margin_low, margin_high, margin_top, margin_bottom, margin_behind, other_zero, margin_stays, margin-at}
+use Rattle.theory.specs.Margins.{margin_behind, other_zero, margin_stays, margin-at}
 use Rattle.theory.specs.Modulo.{sub_lt, sub_add, sub_two_cases}
 use Rattle.theory.specs.Moments.{result_is, syndrome_is, changes_few, weight_few}
 use Rattle.theory.specs.OneBranch.{first_tests, data_all, run_all, checks_all, check_all, syndrome_all, differences_all, answer_all, answers_all}
-use Rattle.theory.specs.OuterCheck.{zero_no_step, one_no_step, no_steps, clean_no_step, weakest_least, steps_on, step_adds, steps_few, outer_other, outer_symbols, outer_keeps}
+use Rattle.theory.specs.OuterCheck.{zero_no_step, one_no_step, no_steps, weakest_least, steps_on, steps_few, outer_other, outer_symbols, outer_keeps}
 use Rattle.theory.specs.PassCalls.{calls_made, taken_of, calls_taken, taken_all, all_small}
 use Rattle.theory.specs.Profiles.{in_profile, later_tests, word_in, syndrome-in, opened_in, decoded_in, counts_in, margins_in, passed_in, changes_in, explained_in, table_in, no_one, page_later, decode_later, pass_later, explain_later, wraps}
 use Rattle.theory.specs.Runs.{range_pass, range_passes, symbols_range, symbols_visited}
-use Rattle.theory.specs.Schedule.{smallest_in, smallest_least, runs_few, runs_of, smallest_run, followed, minima}
+use Rattle.theory.specs.Schedule.{smallest_in, smallest_least, runs_few, runs_of, followed, minima}
 use Rattle.theory.specs.Steps.{check_sum, SymbolsBelow, Sized}
 use Rattle.theory.specs.Tables.{orthogonal_test}
 use Rattle.theory.specs.Voting.{leader_ahead, lead_max, next_max, next_least, leader_mem}
-use Rattle.theory.specs.WideBytes.{symbols_back, bytes_of_symbols, symbols_below, fits_bytes}
+use Rattle.theory.specs.WideBytes.{bytes_of_symbols, symbols_below, fits_bytes}
 use Rattle.theory.specs.WideCalls.{Wide}
 use Rattle.theory.specs.Words.{word_distance, word_syndrome, word_encoded}
+use Rattle.theory.proofs.BitVote.{word_ones, word_zeros, vote_bits, change_bits, margin_bits, equal-bits, visit_bits, visit_zeros}
+use Rattle.theory.proofs.Files.{readable_writable, reads_back, listing_unique, rest_kept, found_inside, read_some, write_some}
+use Rattle.theory.proofs.Margins.{margin_low, margin_high, margin_top, margin_bottom}
+use Rattle.theory.proofs.OuterCheck.{clean_no_step, step_adds}
+use Rattle.theory.proofs.Recovery.{code_recovers}
+use Rattle.theory.proofs.Schedule.{smallest_run}
+use Rattle.theory.proofs.WideBytes.{symbols_back}
 
 -- ---- 1. symbols, the table check and the code
 
