@@ -1,5 +1,6 @@
 // The C forms of the reader and the writer of a file of pages: the entry found, and page numbers and lengths, as bytes.
 #![tactic(auto)]
+
 ghost use Rattle.std.specs.Prelude.{◌≡◌, true, ◌*◌, ◌/◌, ◌%◌, ◌≤◌, eqb, length, set, take};
 ghost use Rattle.model.specs.Bytes.{symbols_of};
 ghost use Rattle.model.specs.Files.{total, entry_words, c_read_outcome, c_lists_fit, c_write_outcome};

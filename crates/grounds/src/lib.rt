@@ -1,5 +1,6 @@
 // Why a data symbol is left or would be changed: the ground, the vote, and the estimates that equal the leader, as bits.
 #![tactic(auto)]
+
 ghost use Rattle.std.specs.Prelude.{◌≡◌, true, ◌-◌, ◌<◌, ◌≤◌, eqb, ltb, length, get_or};
 ghost use Rattle.model.specs.Code.{data_count};
 ghost use Rattle.model.specs.Symbols.{choose, Below};

@@ -1,5 +1,6 @@
 // The margin of a data symbol, which tells how firmly it stands: zeros among its estimates less the largest count of any one other value.
 #![tactic(auto)]
+
 ghost use Rattle.std.specs.Prelude.{◌≡◌, ◌+◌, ◌<◌, ◌≤◌, pos, ◌-ℤ◌};
 ghost use Rattle.model.specs.Code.{checks_by};
 ghost use Rattle.model.specs.Symbols.{same, count, symbols_at};

@@ -1,5 +1,6 @@
 // The vote on bits: the estimates of a data symbol gathered in one machine word, whose ones decide.
 #![tactic(auto)]
+
 ghost use Rattle.std.specs.Prelude.{◌≡◌, ◌-◌, ◌^◌, ◌<◌, ◌≤◌, eqb};
 ghost use Rattle.std.specs.Int.Count.{ones};
 ghost use Rattle.model.specs.Decoder.{is_change};

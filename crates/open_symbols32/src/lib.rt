@@ -1,6 +1,7 @@
 // The way on to the next data symbol of four bytes whose visit the zeros at its checks do not settle: one by one, and by blocks. What reads only
 // the zeros, which are bytes, is the crate `open_symbols`.
 #![tactic(auto)]
+
 ghost use Rattle.std.specs.Prelude.{◌≡◌, true, false, ◌+◌, ◌<◌, ◌≤◌, leb, length};
 ghost use Rattle.model.specs.Symbols.{same};
 ghost use Rattle.open_symbols.specs.Settled.{Open, Settled, Settling, FirstOpen, OpenFrom};

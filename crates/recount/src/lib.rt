@@ -1,5 +1,6 @@
 // A subtraction from the syndrome at the checks of a data symbol, which keeps the zeros at the checks of every data symbol exact.
 #![tactic(auto)]
+
 ghost use Rattle.std.specs.Prelude.{◌≡◌, ◌<◌, ◌≤◌, set};
 ghost use Rattle.model.specs.Code.{check_count, checks_each, checks_of};
 ghost use Rattle.model.specs.Symbols.{Below, subtract_at};

@@ -1,5 +1,6 @@
 // The rows of a check sum of four bytes a symbol: the data turned by a position of the table. Written, or added to the checks, in straight runs.
 #![tactic(auto)]
+
 ghost use Rattle.std.specs.Prelude.{◌≡◌, ◌+◌, ◌<◌, ◌≤◌, length};
 ghost use Rattle.model.specs.Symbols.{add_each, sub_each, tabulate};
 ghost use Rattle.rows.specs.Rows.{row, with_two_parts, with_two_rows};

@@ -1,5 +1,6 @@
 // The two votes, exported to C so that they can be measured alone; not part of libqmtd.a.
 #![tactic(auto)]
+
 ghost use Rattle.std.specs.Prelude.{◌≡◌, ◌+◌, ◌/◌, ◌%◌, ◌≤◌, length};
 ghost use Rattle.model.specs.Symbols.{choose};
 ghost use Rattle.model.specs.Calls.{counters_fit};

@@ -15,93 +15,89 @@ use Rattle.codeword.specs.Checks.{syndrome_written}
 use Rattle.codeword.proofs.write_syndrome.Statement.{statement}
 use Rattle.codeword.proofs.write_syndrome.Tie as tie
 
-data-count-requires : tie.Need-data-count-requires
+data-count-requires : tie.Need-data_count-n-requires
 data-count-requires c κs = search rules
 
-shared-slice-read-first : tie.Need-shared-slice-read-first
+shared-slice-read-first : tie.Need-bounds-positions-0
 shared-slice-read-first c = let b = c.before.before.before.before.before in omega (arith, some_position _ b.requires.0.table)
 
-cast-first : tie.Need-overflow-cast-first
-cast-first c = omega (arith, c.shared-slice-known3.given 0)
-
--- the start, from where the first row is copied
-abbrev start : tie.After-copy-row-less-arg2 → tie.Start
-start c = c.before.before.before.before.before.before.before
+cast-first : tie.Need-overflow_cast-first
+cast-first c = omega (arith, c.shared_slice_known-3-1.given 0)
 
 -- branch 0 of the data
 front : (b : tie.Start) → length (take b.args.code.k b.args.page.now) ≡ b.args.code.k
 front b = length-take-le b.args.code.k b.args.page.now (omega (arith, b.requires.1.len, one-branch _ b.requires.0.table))
 
-slice-aggregate-copy-row-less : tie.Need-slice-aggregate-copy-row-smaller
-slice-aggregate-copy-row-less c = sym (front (start c))
+slice-aggregate-copy-row-less : tie.Need-slice_bounds-copy_row_less-end
+slice-aggregate-copy-row-less c = sym (front c.before.before.before.before.before.before)
 
-sub-copy-row-less : tie.Need-overflow-sub-copy-row-less
+sub-copy-row-less : tie.Need-slice_bounds-copy_row_less-count
 sub-copy-row-less c = search rules
 
-part-copy-row-less-start : tie.Need-slice-bounds-copy-row-less-start
+part-copy-row-less-start : tie.Need-slice_bounds-copy_row_less-start
 part-copy-row-less-start c = search rules
 
-part-copy-row-less-end : tie.Need-slice-bounds-copy-row-less-end
+part-copy-row-less-end : tie.Need-slice_bounds-copy_row_less-end-2
 part-copy-row-less-end c = search rules
 
-copy-row-less-requires : tie.Need-copy-row-less-requires
+copy-row-less-requires : tie.Need-copy_row_less-requires
 copy-row-less-requires c κs =
-    let b = start c.before in
+    let b = c.before.before.before.before.before.before.before in
     let x = b.args in
-    let n = c.before.before.before.before.data-count in (
-      b.pre.0.q_low,
-      b.pre.0.q_high,
-      b.pre.2 ∙ sym (front b),
-      simp (length-take, length-drop) (omega (arith, b.pre.1.len, n.ensures)),
-      omega (arith, front b, first_inside _ b.pre.0.table),
-      below_part x.code.q (omega (arith, b.pre.0.q_low)) 0 x.code.k x.page.now b.pre.1.low,
-      below_part x.code.q (omega (arith, b.pre.0.q_low)) n.result (length x.page.now - n.result) x.page.now b.pre.1.low,
+    let n = c.before.before.before.data_count-n in (
+      b.requires.0.q_low,
+      b.requires.0.q_high,
+      b.requires.2 ∙ sym (front b),
+      simp (length-take, length-drop) (omega (arith, b.requires.1.len, n.ensures)),
+      omega (arith, front b, first_inside _ b.requires.0.table),
+      below_part x.code.q (omega (arith, b.requires.0.q_low)) 0 x.code.k x.page.now b.requires.1.low,
+      below_part x.code.q (omega (arith, b.requires.0.q_low)) n.result (length x.page.now - n.result) x.page.now b.requires.1.low,
     )
 
 -- the data
-all-data : (d : tie.After-data-count)
+all-data : (d : tie.After-data_count-n)
     → let x = d.before.before.before.before.args in
-    SymbolsBelow x.code.q (x.code.b * x.code.k) (take d.data-count.result x.page.now)
+    SymbolsBelow x.code.q (x.code.b * x.code.k) (take d.data_count-n.result x.page.now)
 all-data d =
     let b = d.before.before.before.before in
     let x = b.args in
-    let n = d.data-count in record {
+    let n = d.data_count-n in record {
       len = length-take-le n.result x.page.now (omega (arith, b.requires.1.len, n.ensures)) ∙ n.ensures;
       low = below_part x.code.q (omega (arith, b.requires.0.q_low)) 0 n.result x.page.now b.requires.1.low;
     }
 
-slice-aggregate-add-branches : tie.Need-slice-aggregate-add-branches
+slice-aggregate-add-branches : tie.Need-slice_bounds-add_branches-end
 slice-aggregate-add-branches c =
-    let d = c.before.before.before.before.before.before.before.before in
-    d.data-count.ensures ∙ sym (all-data d).len
+    let d = c.before.before.before.before.before.before in
+    d.data_count-n.ensures ∙ sym (all-data d).len
 
-add-branches-requires : tie.Need-add-branches-requires
+add-branches-requires : tie.Need-add_branches-requires
 add-branches-requires c κs =
-    let r = c.before.before.before.before in
-    let b = start r.before.before in
+    let r = c.before.before.before in
+    let b = r.before.before.before.before.before.before.before.before in
     let x = b.args in (
-      b.pre.0,
+      b.requires.0,
       all-data r.before.before.before.before.before,
-      subst (SymbolsBelow x.code.q x.code.k) (sym r.copy-row-less.ensures)
-          (less_below x.code.q (omega (arith, b.pre.0.q_low)) x.code.k _ _ (row_length _ (take x.code.k x.page.now) ∙ front b)),
+      subst (SymbolsBelow x.code.q x.code.k) (sym r.copy_row_less.ensures)
+          (less_below x.code.q (omega (arith, b.requires.0.q_low)) x.code.k _ _ (row_length _ (take x.code.k x.page.now) ∙ front b)),
     )
 
-same_length : tie.Need-same-length
+same_length : tie.Need-shape_of-s
 same_length c = search rules
 
 returns : tie.Need-returns
 returns c =
-    let r = c.before.before.before.before.before.before.before in
-    let b = start r.before.before in
+    let r = c.before.before.before.before.before.before in
+    let b = r.before.before.before.before.before.before.before.before in
     let x = b.args in
-    let n = r.before.before.before.before.before.data-count in
+    let n = r.before.before.before.before.data_count-n in
     let code = code_by x.code x.positions.now in
-    c.before.before.add-branches.ensures
-    ∙ ap (added x.code.q (rest_sum code (take n.result x.page.now) x.code.b)) r.copy-row-less.ensures
-    ∙ syndrome_written code b.pre.0.table x.page.now n.result b.pre.1.len n.ensures
+    c.before.before.add_branches.ensures
+    ∙ ap (added x.code.q (rest_sum code (take n.result x.page.now) x.code.b)) r.copy_row_less.ensures
+    ∙ syndrome_written code b.requires.0.table x.page.now n.result b.requires.1.len n.ensures
 
-pub write-syndrome-spec : {M : Type 1} → statement M
-write-syndrome-spec =
+pub write_syndrome_spec : {M : Type 1} → statement M
+write_syndrome_spec =
     tie.close
     (tie.spec
     data-count-requires

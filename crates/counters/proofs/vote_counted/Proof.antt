@@ -16,8 +16,8 @@ count-each-requires c κs = search rules
 
 read-vote-requires : tie.Need-read_vote-v-requires
 read-vote-requires c κs =
-    let e = c.before.before.before in
-    let s = e.before.before.before in
+    let e = c.before.before in
+    let s = e.before.before.before.before in
     (omega (arith, s.requires.0), ap (λ (l : List ℕ). length l) e.count_each.ensures ∙ length_counted 256 s.args.es.now)
 
 clear-each-requires : tie.Need-clear_each-requires
@@ -30,7 +30,7 @@ returns : tie.Need-returns
 returns c =
     let d = c.before.before in
     let v = d.before.before in
-    let e = v.before.before.before.before in
+    let e = v.before.before.before in
     let b = e.before.before.before in
     let s = b.before in
     let es : List ℕ = s.args.es.now in (

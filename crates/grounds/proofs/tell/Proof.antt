@@ -21,61 +21,61 @@ ordered v es e = omega (arith, ap (λ (x : Vote). x.lead) e, ap (λ (x : Vote). 
 
 -- ---- on bit pages
 
-bits-of-requires : tie.Need-bits-of-requires
+bits-of-requires : tie.Need-bits_of-word-requires
 bits-of-requires c κs = search rules
 
 -- the estimates, and the word that holds them
-abbrev told : tie.After-bits-of → List ℕ
+abbrev told : tie.After-bits_of-word → List ℕ
 told c = c.before.before.before.args.es.now
 
-word : (c : tie.After-bits-of) → InWord (told c) (length (told c)) c.bits_of.result
+word : (c : tie.After-bits_of-word) → InWord (told c) (length (told c)) c.bits_of-word.result
 word c =
     let p = c.before.before.before.requires in
-    in_word (told c) (p.2 c.before.if1.true) (omega arith) p.1 _ _ refl c.bits_of.ensures
+    in_word (told c) (p.2 c.before.if-bits.true) (omega arith) p.1 _ _ refl c.bits_of-word.ensures
 
-vote : (c : tie.After-vote-in) → c.vote-in.result ≡ vote_of (told c.before)
-vote c = c.vote-in.ensures ∙ word_votes (word c.before)
+vote : (c : tie.After-vote_in-v) → c.vote_in-v.result ≡ vote_of (told c.before)
+vote c = c.vote_in-v.ensures ∙ word_votes (word c.before)
 
-vote-in-requires : tie.Need-vote-in-requires
+vote-in-requires : tie.Need-vote_in-v-requires
 vote-in-requires c κs = let w = word c in (w.few, w.set)
 
-equal-in-requires : tie.Need-equal-in-requires
+equal-in-requires : tie.Need-equal_in-requires
 equal-in-requires c κs = let w = word c.before in (w.few, w.room)
 
-told-by-requires : tie.Need-told-by-requires
+told-by-requires : tie.Need-told_by-requires
 told-by-requires c κs = ordered _ _ (vote c.before)
 
-returns : tie.Need-returns
+returns : tie.Need-returns-then-bits
 unfolding ground_of
 returns c =
     let b = c.before in
     let v = b.before in
-    let w : ℕ = v.before.bits_of.result in
-    let bits = b.equal-in.ensures ∙ ap (λ (x : Vote). choose (eqb x.leader 1) w (2 ^ length (told v.before) - 1 - w)) (vote v) ∙ word_equal (word v.before) in
-    rw (c.told-by.ensures, bits, vote v) refl
+    let w : ℕ = v.before.bits_of-word.result in
+    let bits = b.equal_in.ensures ∙ ap (λ (x : Vote). choose (eqb x.leader 1) w (2 ^ length (told v.before) - 1 - w)) (vote v) ∙ word_equal (word v.before) in
+    rw (c.told_by.ensures, bits, vote v) refl
 
 -- ---- and on others
 
-vote-over-requires : tie.Need-vote-over-requires
+vote-over-requires : tie.Need-vote_over-v-requires
 vote-over-requires c κs = search rules
 
-bits-of-requires-2 : tie.Need-bits-of-requires-2
+bits-of-requires-2 : tie.Need-bits_of-requires
 bits-of-requires-2 c κs = search rules
 
-told-by-requires-2 : tie.Need-told-by-requires-2
-told-by-requires-2 c κs = ordered _ _ c.before.vote-over.ensures
+told-by-requires-2 : tie.Need-told_by-requires-2
+told-by-requires-2 c κs = ordered _ _ c.before.vote_over-v.ensures
 
-returns-2 : tie.Need-returns-2
+returns-2 : tie.Need-returns
 unfolding ground_of
 returns-2 c =
     let b = c.before in
     let v = b.before in
-    let e = v.vote-over.ensures in
-    let bits = b.bits-of2.ensures ∙ ap (λ (x : Vote). equal_bits v.before.before.before.args.es.now x.leader) e in
-    rw (c.told-by2.ensures, bits, e) refl
+    let e = v.vote_over-v.ensures in
+    let bits = b.bits_of.ensures ∙ ap (λ (x : Vote). equal_bits v.before.before.before.args.es.now x.leader) e in
+    rw (c.told_by-2.ensures, bits, e) refl
 
-pub tell-spec : {M : Type 1} → statement M
-tell-spec =
+pub tell_spec : {M : Type 1} → statement M
+tell_spec =
     tie.close
     (tie.spec
     bits-of-requires

@@ -15,17 +15,17 @@ use Rattle.margins.proofs.margin_of.Tie as tie
 read : (n : ℕ) → n ≤ 33 → to_z w32 n ≡ pos n
 read n h = simp (lt-ltb n (2 ^ 31) (omega arith))
 
-cast-result : tie.Need-overflow-cast-result
+cast-result : tie.Need-overflow_cast-result
 cast-result c = search rules
 
-cast-result-2 : tie.Need-overflow-cast-result-2
+cast-result-2 : tie.Need-overflow_cast-result-2
 cast-result-2 c = search rules
 
-sub-result : tie.Need-overflow-sub-result
+sub-result : tie.Need-overflow_sub-result
 sub-result c = rw (read c.args.zeros c.requires.0, read c.args.most c.requires.1) (small_fits c.args.zeros c.args.most c.requires.0 c.requires.1)
 
 returns : tie.Need-returns
 returns c = to_z-of_z w32 _ (sub-result c) ∙ rw (read c.args.zeros c.requires.0, read c.args.most c.requires.1)
 
-pub margin-of-spec : {M : Type 1} → statement M
-margin-of-spec = tie.close (tie.spec cast-result cast-result-2 sub-result returns)
+pub margin_of_spec : {M : Type 1} → statement M
+margin_of_spec = tie.close (tie.spec cast-result cast-result-2 sub-result returns)

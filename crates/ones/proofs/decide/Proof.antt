@@ -5,20 +5,20 @@ use Rattle.ones.specs.Words.{decide_no, decide_yes}
 use Rattle.ones.proofs.decide.Statement.{statement}
 use Rattle.ones.proofs.decide.Tie as tie
 
-cast-set : tie.Need-overflow-cast-set
+cast-set : tie.Need-overflow_cast-set
 cast-set c = search rules
 
-sub-clear : tie.Need-overflow-sub-clear
+sub-clear : tie.Need-overflow_sub-clear
 sub-clear c = search rules
 
-add-if1 : tie.Need-overflow-add-if1
+add-if1 : tie.Need-overflow_add-clear
 add-if1 c = search rules
 
-returns : tie.Need-returns
-returns c = decide_no _ _ _ (omega (arith, c.if1.true))
+returns : tie.Need-returns-then-set-clear
+returns c = decide_no _ _ _ (omega (arith, c.if-set-clear.true))
 
-returns-2 : tie.Need-returns-2
-returns-2 c = decide_yes _ _ _ (omega (arith, c.if1.false))
+returns-2 : tie.Need-returns
+returns-2 c = decide_yes _ _ _ (omega (arith, c.if-set-clear.false))
 
-pub decide-spec : {M : Type 1} → statement M
-decide-spec = tie.close (tie.spec cast-set sub-clear add-if1 returns returns-2)
+pub decide_spec : {M : Type 1} → statement M
+decide_spec = tie.close (tie.spec cast-set sub-clear add-if1 returns returns-2)

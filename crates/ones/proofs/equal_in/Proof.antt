@@ -6,17 +6,17 @@ use native.Mathlib.Omega.{arith}
 use Rattle.ones.proofs.equal_in.Statement.{statement}
 use Rattle.ones.proofs.equal_in.Tie as tie
 
-returns : tie.Need-returns
-returns c = simp (eq-eqb _ _ c.if1.true)
+returns : tie.Need-returns-then-h-eq1
+returns c = simp (eq-eqb _ _ c.if-h-eq1.true)
 
-all-bits-requires : tie.Need-all-bits-requires
+all-bits-requires : tie.Need-all_bits-requires
 all-bits-requires c κs = search rules
 
-sub-result : tie.Need-overflow-sub-result
-sub-result c = omega (arith, c.all-bits.ensures, c.before.before.requires.1)
+sub-result : tie.Need-overflow_sub-result
+sub-result c = omega (arith, c.all_bits.ensures, c.before.before.requires.1)
 
-returns-2 : tie.Need-returns-2
-returns-2 c = rw (c.all-bits.ensures, ne_eqb _ _ c.before.if1.false) refl
+returns-2 : tie.Need-returns
+returns-2 c = rw (c.all_bits.ensures, ne_eqb _ _ c.before.if-h-eq1.false) refl
 
-pub equal-in-spec : {M : Type 1} → statement M
-equal-in-spec = tie.close (tie.spec returns all-bits-requires sub-result returns-2)
+pub equal_in_spec : {M : Type 1} → statement M
+equal_in_spec = tie.close (tie.spec returns all-bits-requires sub-result returns-2)

@@ -18,13 +18,13 @@ start c = c.before.before.before
 
 word : (c : tie.After-gather)
     → let a = (start c).args in InWord (estimates_by a.code.k a.positions.now a.j a.own a.s.now) (length a.positions.now + 1) c.gather.result
-word c = let b = start c in in_word_at b.pre.0 b.args.j b.args.own _ _ b.pre.2 b.pre.3 refl c.gather.ensures
+word c = let b = start c in in_word_at b.requires.0 b.args.j b.args.own _ _ b.requires.2 b.requires.3 refl c.gather.ensures
 
-cast-result : tie.Need-overflow-cast-result
+cast-result : tie.Need-overflow_cast-result
 cast-result c = let w = word c in omega (arith, w.set, w.few)
 
 returns : tie.Need-returns
 returns c = word_others (word c)
 
-pub ones-at-spec : {M : Type 1} → statement M
-ones-at-spec = tie.close (tie.spec gather-requires cast-result returns)
+pub ones_at_spec : {M : Type 1} → statement M
+ones_at_spec = tie.close (tie.spec gather-requires cast-result returns)

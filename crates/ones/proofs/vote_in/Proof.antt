@@ -5,20 +5,20 @@ use Rattle.ones.specs.Words.{vote_ones, vote_zeros}
 use Rattle.ones.proofs.vote_in.Statement.{statement}
 use Rattle.ones.proofs.vote_in.Tie as tie
 
-cast-set : tie.Need-overflow-cast-set
+cast-set : tie.Need-overflow_cast-set
 cast-set c = search rules
 
-cast-clear : tie.Need-overflow-cast-clear
+cast-clear : tie.Need-overflow_cast-clear
 cast-clear c = search rules
 
-sub-clear : tie.Need-overflow-sub-clear
+sub-clear : tie.Need-overflow_sub-clear
 sub-clear c = search rules
 
-returns : tie.Need-returns
-returns c = vote_ones _ _ (omega (arith, c.if1.true))
+returns : tie.Need-returns-then-clear-set
+returns c = vote_ones _ _ (omega (arith, c.if-clear-set.true))
 
-returns-2 : tie.Need-returns-2
-returns-2 c = vote_zeros _ _ (omega (arith, c.if1.false))
+returns-2 : tie.Need-returns
+returns-2 c = vote_zeros _ _ (omega (arith, c.if-clear-set.false))
 
-pub vote-in-spec : {M : Type 1} → statement M
-vote-in-spec = tie.close (tie.spec cast-set cast-clear sub-clear returns returns-2)
+pub vote_in_spec : {M : Type 1} → statement M
+vote_in_spec = tie.close (tie.spec cast-set cast-clear sub-clear returns returns-2)

@@ -9,16 +9,16 @@ use Rattle.open_symbols32.proofs.is_open.Tie as tie
 equal-requires : tie.Need-equal-requires
 equal-requires c κs = search rules
 
-cast-n : tie.Need-overflow-cast-n
+cast-n : tie.Need-overflow_cast-n-2
 cast-n c = search rules
 
-add-n : tie.Need-overflow-add-n
+add-n : tie.Need-overflow_add-n
 add-n c = search rules
 
-add-result : tie.Need-overflow-add-result
+add-result : tie.Need-overflow_add-result
 add-result c = search rules
 
-add-result-2 : tie.Need-overflow-add-result-2
+add-result-2 : tie.Need-overflow_add-result-2
 add-result-2 c = search rules
 
 returns : tie.Need-returns
@@ -26,5 +26,5 @@ returns c =
     let a = c.before.args in
     ap (λ (x : ℕ). leb (a.zeros + x + (a.zeros + x) + a.threshold) a.each) c.equal.ensures.0
 
-pub is-open-spec : {M : Type 1} → statement M
-is-open-spec = tie.close (tie.spec equal-requires cast-n add-n add-result add-result-2 returns)
+pub is_open_spec : {M : Type 1} → statement M
+is_open_spec = tie.close (tie.spec equal-requires cast-n add-n add-result add-result-2 returns)

@@ -52,7 +52,7 @@ whole b =
 
 -- in the first loop the position is there and less than room
 before : (t : tie.In-loop-e invariant-loop decreases-loop invariant-loop2 decreases-loop2) → let l = t.before.before in let a = (start l).args in
-    (l.loop.i < length a.positions.now) × (get_or a.positions.now l.loop.i 0 < a.code.k - a.j)
+    (l.loop-e.i < length a.positions.now) × (get_or a.positions.now l.loop-e.i 0 < a.code.k - a.j)
 before t = t.before.is_before.ensures.0 t.loop-e-test.true
 
 returns : tie.Need-returns-then-bound-eq0 invariant-loop decreases-loop invariant-loop2 decreases-loop2
@@ -87,25 +87,25 @@ add-e : tie.Need-overflow_add-e invariant-loop decreases-loop invariant-loop2 de
 add-e c = let b = start c.before.before.before in omega (arith, (before c.before).1, b.requires.0.k_high, b.requires.1)
 
 shared-slice-read-e-2 : tie.Need-bounds-s-j invariant-loop decreases-loop invariant-loop2 decreases-loop2
-shared-slice-read-e-2 c = let b = start (turn c) in omega (arith, (before c.before.before).1, b.requires.0.len, b.requires.1)
+shared-slice-read-e-2 c = let b = start c.before.before.before.before in omega (arith, (before c.before.before).1, b.requires.0.len, b.requires.1)
 
 cast-e-2 : tie.Need-overflow_cast-e-in-loop-e invariant-loop decreases-loop invariant-loop2 decreases-loop2
-cast-e-2 c = let l = turn c in let a = (start l).args in omega (arith, c.shared_slice_known-in-loop-e-2-1.given (a.j + get_or a.positions.now l.loop.i 0))
+cast-e-2 c = let l = c.before.before.before.before in let a = (start l).args in omega (arith, c.shared_slice_known-in-loop-e-2-1.given (a.j + get_or a.positions.now l.loop-e.i 0))
 
 array-read-c : tie.Need-bounds-counters-e invariant-loop decreases-loop invariant-loop2 decreases-loop2
-array-read-c c = let l = turn c in let a = (start l).args in omega (arith, c.shared_slice_known-in-loop-e-2-1.given (a.j + get_or a.positions.now l.loop.i 0))
+array-read-c c = let l = c.before.before.before.before in let a = (start l).args in omega (arith, c.shared_slice_known-in-loop-e-2-1.given (a.j + get_or a.positions.now l.loop-e.i 0))
 
 add-c : tie.Need-overflow_add-c invariant-loop decreases-loop invariant-loop2 decreases-loop2
 add-c c =
-    let l = turn c in
+    let l = c.before.before.before.before in
     let b = start l in
     let a = b.args in
     omega (
       arith,
       b.requires.0.J-high,
       (before c.before.before).0,
-      few_at (a.j + (a.code.k - a.j)) a.positions.now a.j a.own a.s.now a.bound l.loop.i l.loop.counters l.loop.inv.1
-          (get_or a.s.now (a.j + get_or a.positions.now l.loop.i 0) 0),
+      few_at (a.j + (a.code.k - a.j)) a.positions.now a.j a.own a.s.now a.bound l.loop-e.i l.loop-e.counters l.loop-e.invariant.1
+          (get_or a.s.now (a.j + get_or a.positions.now l.loop-e.i 0) 0),
     )
 
 returns-2 : tie.Need-returns-then-bound-c invariant-loop decreases-loop invariant-loop2 decreases-loop2
@@ -114,11 +114,11 @@ returns-2 c =
     let b = start l in
     let a = b.args in
     let f = before c.before.before.before in
-    above_at (a.j + (a.code.k - a.j)) a.positions.now a.j a.own a.s.now a.bound l.loop.i l.loop.counters l.loop.inv.1
+    above_at (a.j + (a.code.k - a.j)) a.positions.now a.j a.own a.s.now a.bound l.loop-e.i l.loop-e.counters l.loop-e.invariant.1
     _ f.0 (straight_at a.j _ (a.code.k - a.j) f.1) (omega arith) ∙ whole b
 
 array-write-counters-2 : tie.Need-bounds-counters-e-in-loop-e invariant-loop decreases-loop invariant-loop2 decreases-loop2
-array-write-counters-2 c = array-read-c c.before
+array-write-counters-2 c = let l = turn c.before in let a = (start l).args in omega (arith, c.before.shared_slice_known-in-loop-e-2-1.given (a.j + get_or a.positions.now l.loop-e.i 0))
 
 add-i : tie.Need-overflow_add-i invariant-loop decreases-loop invariant-loop2 decreases-loop2
 add-i c = omega (arith, (before c.before.before.before).0)
@@ -132,12 +132,12 @@ loop-again c =
     let a = (start l).args in
     let f = before c.before.before.before in (
       omega (arith, f.0),
-      more-at (a.j + (a.code.k - a.j)) a.positions.now a.j a.own a.s.now a.bound l.loop.i l.loop.counters l.loop.inv.1
-          (a.j + get_or a.positions.now l.loop.i 0) f.0 (straight_at a.j _ (a.code.k - a.j) f.1) (array-read-c c.before) (omega arith),
+      more-at (a.j + (a.code.k - a.j)) a.positions.now a.j a.own a.s.now a.bound l.loop-e.i l.loop-e.counters l.loop-e.invariant.1
+          (a.j + get_or a.positions.now l.loop-e.i 0) f.0 (straight_at a.j _ (a.code.k - a.j) f.1) (array-write-counters-2 c) (omega arith),
     )
 
 loop2-holds : tie.Need-loop-i-init invariant-loop decreases-loop invariant-loop2 decreases-loop2
-loop2-holds c = let l = c.before.before in (l.loop.invariant.0, l.loop.invariant.1, c.before.is_before.ensures.1 c.loop-e-test.false)
+loop2-holds c = let l = c.before.before in (l.loop-e.invariant.0, l.loop-e.invariant.1, c.before.is_before.ensures.1 c.loop-e-test.false)
 
 mul-e-2 : tie.Need-offset_bounds-positions-i-in-loop-i invariant-loop decreases-loop invariant-loop2 decreases-loop2
 mul-e-2 c = search rules
@@ -150,36 +150,36 @@ cast-e-3 c = omega (arith, c.shared_slice_known-in-loop-i-1.given c.before.befor
 
 -- in the second loop the position is room or more, and less than k
 after : (t : tie.In-loop-i invariant-loop decreases-loop invariant-loop2 decreases-loop2) → let l = t.before in let a = (start2 l).args in
-    (l.loop2.i < length a.positions.now) × (a.code.k - a.j ≤ get_or a.positions.now l.loop2.i 0) × (get_or a.positions.now l.loop2.i 0 < a.j + (a.code.k - a.j))
+    (l.loop-i.i < length a.positions.now) × (a.code.k - a.j ≤ get_or a.positions.now l.loop-i.i 0) × (get_or a.positions.now l.loop-i.i 0 < a.j + (a.code.k - a.j))
 after t =
     let l = t.before in
     let b = start2 l in
-    let h : l.loop2.i < length b.args.positions.now = omega arith in
-    (h, l.loop2.invariant.2 h, omega (arith, b.requires.0.ascending.below l.loop2.i h, b.requires.1))
+    let h : l.loop-i.i < length b.args.positions.now = omega arith in
+    (h, l.loop-i.invariant.2 h, omega (arith, b.requires.0.ascending.below l.loop-i.i h, b.requires.1))
 
 sub-e : tie.Need-overflow_sub-e invariant-loop decreases-loop invariant-loop2 decreases-loop2
 sub-e c = omega (arith, (after c.before).1)
 
 shared-slice-read-e-4 : tie.Need-bounds-s-positions invariant-loop decreases-loop invariant-loop2 decreases-loop2
-shared-slice-read-e-4 c = let b = start2 (turn2 c) in let f = after c.before.before in omega (arith, f.1, f.2, b.requires.0.len, b.requires.1)
+shared-slice-read-e-4 c = let b = start2 c.before.before.before in let f = after c.before.before in omega (arith, f.1, f.2, b.requires.0.len, b.requires.1)
 
 cast-e-4 : tie.Need-overflow_cast-e-in-loop-i-2 invariant-loop decreases-loop invariant-loop2 decreases-loop2
-cast-e-4 c = let l = turn2 c in let a = (start2 l).args in omega (arith, c.shared_slice_known-in-loop-i-2-1.given (get_or a.positions.now l.loop2.i 0 - (a.code.k - a.j)))
+cast-e-4 c = let l = c.before.before.before in let a = (start2 l).args in omega (arith, c.shared_slice_known-in-loop-i-2-1.given (get_or a.positions.now l.loop-i.i 0 - (a.code.k - a.j)))
 
 array-read-c-2 : tie.Need-bounds-counters-e-in-loop-i invariant-loop decreases-loop invariant-loop2 decreases-loop2
-array-read-c-2 c = let l = turn2 c in let a = (start2 l).args in omega (arith, c.shared_slice_known-in-loop-i-2-1.given (get_or a.positions.now l.loop2.i 0 - (a.code.k - a.j)))
+array-read-c-2 c = let l = c.before.before.before in let a = (start2 l).args in omega (arith, c.shared_slice_known-in-loop-i-2-1.given (get_or a.positions.now l.loop-i.i 0 - (a.code.k - a.j)))
 
 add-c-2 : tie.Need-overflow_add-c-in-loop-i invariant-loop decreases-loop invariant-loop2 decreases-loop2
 add-c-2 c =
-    let l = turn2 c in
+    let l = c.before.before.before in
     let b = start2 l in
     let a = b.args in
     omega (
       arith,
       b.requires.0.J-high,
       (after c.before.before).0,
-      few_at (a.j + (a.code.k - a.j)) a.positions.now a.j a.own a.s.now a.bound l.loop2.i l.loop2.counters l.loop2.inv.1
-          (get_or a.s.now (get_or a.positions.now l.loop2.i 0 - (a.code.k - a.j)) 0),
+      few_at (a.j + (a.code.k - a.j)) a.positions.now a.j a.own a.s.now a.bound l.loop-i.i l.loop-i.counters l.loop-i.invariant.1
+          (get_or a.s.now (get_or a.positions.now l.loop-i.i 0 - (a.code.k - a.j)) 0),
     )
 
 returns-3 : tie.Need-returns-then-bound-c-2 invariant-loop decreases-loop invariant-loop2 decreases-loop2
@@ -188,11 +188,11 @@ returns-3 c =
     let b = start2 l in
     let a = b.args in
     let f = after c.before.before.before in
-    above_at (a.j + (a.code.k - a.j)) a.positions.now a.j a.own a.s.now a.bound l.loop2.i l.loop2.counters l.loop2.inv.1
+    above_at (a.j + (a.code.k - a.j)) a.positions.now a.j a.own a.s.now a.bound l.loop-i.i l.loop-i.counters l.loop-i.invariant.1
     _ f.0 (turned_at a.j _ (a.code.k - a.j) f.1 f.2) (omega arith) ∙ whole b
 
 array-write-counters-3 : tie.Need-bounds-counters-e-in-loop-i-2 invariant-loop decreases-loop invariant-loop2 decreases-loop2
-array-write-counters-3 c = array-read-c-2 c.before
+array-write-counters-3 c = let l = turn2 c.before in let a = (start2 l).args in omega (arith, c.before.shared_slice_known-in-loop-i-2-1.given (get_or a.positions.now l.loop-i.i 0 - (a.code.k - a.j)))
 
 add-i-2 : tie.Need-overflow_add-i-in-loop-i invariant-loop decreases-loop invariant-loop2 decreases-loop2
 add-i-2 c = omega (arith, (after c.before.before.before).0)
@@ -207,9 +207,9 @@ loop2-again c =
     let a = b.args in
     let f = after c.before.before.before in (
       omega (arith, f.0),
-      more-at (a.j + (a.code.k - a.j)) a.positions.now a.j a.own a.s.now a.bound l.loop2.i l.loop2.counters l.loop2.inv.1
-          (get_or a.positions.now l.loop2.i 0 - (a.code.k - a.j)) f.0 (turned_at a.j _ (a.code.k - a.j) f.1 f.2) (array-read-c-2 c.before) (omega arith),
-      λ h. rw (add-one l.loop2.i) (omega (arith, f.1, b.requires.0.ascending.above l.loop2.i (omega (arith, h)))),
+      more-at (a.j + (a.code.k - a.j)) a.positions.now a.j a.own a.s.now a.bound l.loop-i.i l.loop-i.counters l.loop-i.invariant.1
+          (get_or a.positions.now l.loop-i.i 0 - (a.code.k - a.j)) f.0 (turned_at a.j _ (a.code.k - a.j) f.1 f.2) (array-write-counters-3 c) (omega arith),
+      λ h. rw (add-one l.loop-i.i) (omega (arith, f.1, b.requires.0.ascending.above l.loop-i.i (omega (arith, h)))),
     )
 
 returns-4 : tie.Need-returns invariant-loop decreases-loop invariant-loop2 decreases-loop2
@@ -217,7 +217,7 @@ returns-4 c =
     let l = c.before in
     let b = start2 l in
     let a = b.args in
-    within_at (a.j + (a.code.k - a.j)) a.positions.now a.j a.own a.s.now a.bound l.loop2.i l.loop2.counters l.loop2.invariant.1 (omega arith) ∙ whole b
+    within_at (a.j + (a.code.k - a.j)) a.positions.now a.j a.own a.s.now a.bound l.loop-i.i l.loop-i.counters l.loop-i.invariant.1 (omega arith) ∙ whole b
 
 pub lead_above_spec : {M : Type 1} → statement M
 lead_above_spec =

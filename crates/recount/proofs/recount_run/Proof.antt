@@ -7,69 +7,69 @@ use Rattle.recount.specs.Recount.{Recounted, Turn, recount_none, recount_turn, r
 use Rattle.recount.proofs.recount_run.Statement.{statement}
 use Rattle.recount.proofs.recount_run.Tie as tie
 
-abbrev invariant-loop : tie.invariant-loop
+abbrev invariant-loop : tie.invariant-loop-i
 invariant-loop code positions c gained lost zeros₀ i₀ zeros i = Recounted code.k positions c gained lost zeros₀ i zeros
 
-abbrev decreases-loop : tie.decreases-loop
+abbrev decreases-loop : tie.decreases-loop-i
 decreases-loop code positions c gained lost zeros₀ i₀ zeros i = length positions - i
 
 -- the start, seen from the loop
-abbrev start : tie.At-loop invariant-loop decreases-loop → tie.Start invariant-loop decreases-loop
+abbrev start : tie.At-loop-i invariant-loop decreases-loop → tie.Start invariant-loop decreases-loop
 start c = c.before.before.before
 
 -- the loop, seen from where a symbol is counted again
-abbrev head : tie.After-slice-known2 invariant-loop decreases-loop → tie.At-loop invariant-loop decreases-loop
+abbrev head : tie.After-slice_known-in-loop-i-1 invariant-loop decreases-loop → tie.At-loop-i invariant-loop decreases-loop
 head c = c.before.before.before.before
 
 -- a turn, at the symbol that it counts again
-turn : (c : tie.After-slice-known2 invariant-loop decreases-loop)
+turn : (c : tie.After-slice_known-in-loop-i-1 invariant-loop decreases-loop)
     → Turn (start (head c)).args.code.k (start (head c)).args.positions.now (start (head c)).args.c (start (head c)).args.gained (start (head c)).args.lost
-    (start (head c)).args.zeros.now (head c).loop.i (head c).loop.zeros c.before.symbol-of.result
-turn c = recount_turn (start (head c)).pre (head c).loop.invariant (omega arith) c.before.symbol-of.ensures
+    (start (head c)).args.zeros.now (head c).loop-i.i (head c).loop-i.zeros c.before.symbol_of-x.result
+turn c = recount_turn (start (head c)).requires (head c).loop-i.invariant (omega arith) c.before.symbol_of-x.ensures
 
-loop-holds : tie.Need-loop-init invariant-loop decreases-loop
+loop-holds : tie.Need-loop-i-init invariant-loop decreases-loop
 loop-holds c = recount_none c.before.before.requires
 
-mul-symbol-of : tie.Need-overflow-mul-symbol-of invariant-loop decreases-loop
+mul-symbol-of : tie.Need-offset_bounds-positions-i invariant-loop decreases-loop
 mul-symbol-of c = search rules
 
-shared-slice-read-symbol-of : tie.Need-shared-slice-read-symbol-of invariant-loop decreases-loop
+shared-slice-read-symbol-of : tie.Need-bounds-positions-i invariant-loop decreases-loop
 shared-slice-read-symbol-of c = omega arith
 
-symbol-of-requires : tie.Need-symbol-of-requires invariant-loop decreases-loop
+symbol-of-requires : tie.Need-symbol_of-x-requires invariant-loop decreases-loop
 symbol-of-requires c κs =
-    let p = (start c.before.before).pre in
+    let p = (start c.before.before).requires in
     (p.k_high, p.inside, p.ascending.below _ (omega arith))
 
-slice-read-zeros : tie.Need-slice-read-zeros invariant-loop decreases-loop
+slice-read-zeros : tie.Need-bounds-zeros-x invariant-loop decreases-loop
 slice-read-zeros c = (turn c).inside
 
-add-zeros : tie.Need-overflow-add-zeros invariant-loop decreases-loop
+add-zeros : tie.Need-overflow_add-zeros invariant-loop decreases-loop
 add-zeros c = let t = turn c in omega arith
 
-sub-zeros : tie.Need-overflow-sub-zeros invariant-loop decreases-loop
+sub-zeros : tie.Need-overflow_sub-zeros invariant-loop decreases-loop
 sub-zeros c = let t = turn c in omega arith
 
-slice-write-zeros : tie.Need-slice-write-zeros invariant-loop decreases-loop
+slice-write-zeros : tie.Need-bounds-zeros-x-in-loop-i invariant-loop decreases-loop
 slice-write-zeros c = (turn c).inside
 
-add-i : tie.Need-overflow-add-i invariant-loop decreases-loop
+add-i : tie.Need-overflow_add-i invariant-loop decreases-loop
 add-i c = omega arith
 
-loop-less : tie.Need-loop-smaller invariant-loop decreases-loop
+loop-less : tie.Need-loop-i-smaller invariant-loop decreases-loop
 loop-less c = omega arith
 
-loop-again : tie.Need-loop-preserved invariant-loop decreases-loop
+loop-again : tie.Need-loop-i-preserved invariant-loop decreases-loop
 loop-again c = (turn c).next
 
-same_length : tie.Need-same-length invariant-loop decreases-loop
-same_length c = omega (arith, c.before.loop.invariant.sized, (start c.before).pre.sized)
+same_length : tie.Need-shape_of-zeros invariant-loop decreases-loop
+same_length c = omega (arith, c.before.loop-i.invariant.sized, (start c.before).requires.sized)
 
 returns : tie.Need-returns invariant-loop decreases-loop
-returns c = recount_all (start c.before).pre c.before.loop.invariant (omega arith)
+returns c = recount_all (start c.before).requires c.before.loop-i.invariant (omega arith)
 
-pub recount-run-spec : {M : Type 1} → statement M
-recount-run-spec =
+pub recount_run_spec : {M : Type 1} → statement M
+recount_run_spec =
     tie.close
     (tie.spec
     invariant-loop

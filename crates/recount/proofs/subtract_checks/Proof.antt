@@ -17,15 +17,15 @@ use Rattle.recount.proofs.subtract_checks.Tie as tie
 abbrev run_at : List ℕ → ℕ → ℕ → List ℕ
 run_at positions first each = take each (drop first positions)
 
-abbrev invariant-loop : tie.invariant-loop
+abbrev invariant-loop : tie.invariant-loop-i
 invariant-loop code positions h s₀ zeros₀ first each index i₀ s zeros i =
     Subtracted code.q h code.k (run_at positions first each) index s₀ i s × (zeros ≡ zero_counts (code_by code positions) s)
 
-abbrev decreases-loop : tie.decreases-loop
+abbrev decreases-loop : tie.decreases-loop-i
 decreases-loop code positions h s₀ zeros₀ first each index i₀ s zeros i = each - i
 
 -- the start, seen from the loop, the code, the run, and what the place is good for
-abbrev start : tie.At-loop invariant-loop decreases-loop → tie.Start invariant-loop decreases-loop
+abbrev start : tie.At-loop-i invariant-loop decreases-loop → tie.Start invariant-loop decreases-loop
 start c = c.before.before.before.before.before.before
 
 abbrev code : tie.Start invariant-loop decreases-loop → Code
@@ -38,89 +38,89 @@ place : (c : tie.Start invariant-loop decreases-loop) → Found (code c) c.args.
 place c = found c.requires.0 c.requires.1
 
 -- the syndrome in the loop is at the checks still
-at : (c : tie.At-loop invariant-loop decreases-loop) → AtChecks (start c).args.code.k (run (start c)) c.loop.s
-at c = at_checks_of (place (start c)).checks_lent c.loop.s c.loop.invariant.0.sized
+at : (c : tie.At-loop-i invariant-loop decreases-loop) → AtChecks (start c).args.code.k (run (start c)) c.loop-i.s
+at c = at_checks_of (place (start c)).checks_lent c.loop-i.s c.loop-i.invariant.0.sized
 
 -- a position of the run is next
-inside : (c : tie.In-loop invariant-loop decreases-loop) → c.before.loop.i < length (run (start c.before))
+inside : (c : tie.In-loop-i invariant-loop decreases-loop) → c.before.loop-i.i < length (run (start c.before))
 inside c = omega (arith, (place (start c.before)).run_length)
 
-sub_each : tie.Need-overflow-sub-each invariant-loop decreases-loop
+sub_each : tie.Need-overflow_sub-each invariant-loop decreases-loop
 sub_each c = (place c.before.before.before.before).first_last
 
-sub-index : tie.Need-overflow-sub-index invariant-loop decreases-loop
+sub-index : tie.Need-overflow_sub-index invariant-loop decreases-loop
 sub-index c = (place c.before.before.before.before.before).start_low
 
-loop-holds : tie.Need-loop-init invariant-loop decreases-loop
+loop-holds : tie.Need-loop-i-init invariant-loop decreases-loop
 loop-holds c = (subtract_none _ _ _ _ _ _, c.before.before.before.before.before.requires.5)
 
-add-check-of : tie.Need-overflow-add-check-of invariant-loop decreases-loop
+add-check-of : tie.Need-overflow_add-first invariant-loop decreases-loop
 add-check-of c = let g = place (start c.before) in omega (arith, g.few, g.first_last)
 
-mul-check-of : tie.Need-overflow-mul-check-of invariant-loop decreases-loop
+mul-check-of : tie.Need-offset_bounds-positions-first invariant-loop decreases-loop
 mul-check-of c = let g = place (start c.before) in omega (arith, g.few, g.first_last)
 
-shared-slice-read-check-of : tie.Need-shared-slice-read-check-of invariant-loop decreases-loop
+shared-slice-read-check-of : tie.Need-bounds-positions-first invariant-loop decreases-loop
 shared-slice-read-check-of c = let g = place (start c.before.before) in omega (arith, g.last_in, g.first_last)
 
-check-of-requires : tie.Need-check-of-requires invariant-loop decreases-loop
+check-of-requires : tie.Need-check_of-c-requires invariant-loop decreases-loop
 check-of-requires c κs =
     let l = c.before.before in
     let g = place (start l) in
-    rw (g.position l.loop.i (omega arith)) (by_position g.checks_lent _ l.loop.i g.index_low (inside c.before))
+    rw (g.position l.loop-i.i (omega arith)) (by_position g.checks_lent _ l.loop-i.i g.index_low (inside c.before))
 
-slice-read-sub-mod : tie.Need-slice-read-sub-mod invariant-loop decreases-loop
-slice-read-sub-mod c = check_inside (at c.before.before.before.before) _ _ c.before.check-of.ensures
+slice-read-sub-mod : tie.Need-bounds-s-c invariant-loop decreases-loop
+slice-read-sub-mod c = check_inside (at c.before.before.before.before) _ _ c.before.check_of-c.ensures
 
-sub-mod-requires : tie.Need-sub-mod-requires invariant-loop decreases-loop
+sub-mod-requires : tie.Need-sub_mod-v-requires invariant-loop decreases-loop
 sub-mod-requires c κs =
     let l = c.before.before.before.before in
-    let low = subtract_below l.loop.invariant.0 (omega arith) (start l).requires.4 in
-    omega (arith, low c.before.check-of.result)
+    let low = subtract_below l.loop-i.invariant.0 (omega arith) (start l).requires.4 in
+    omega (arith, low c.before.check_of-c.result)
 
-write-check-requires : tie.Need-write-check-requires invariant-loop decreases-loop
+write-check-requires : tie.Need-write_check-requires invariant-loop decreases-loop
 write-check-requires c κs =
     let l = c.before.before.before.before.before.before.before in
     let b = start l in
-    (at_table_of b.pre.0 l.loop.s l.loop.invariant.0.sized, (place b).each, omega (arith, (at l).len, slice-read-sub-mod c.before.before.before), l.loop.invariant.1)
+    (at_table_of b.requires.0 l.loop-i.s l.loop-i.invariant.0.sized, (place b).each, omega (arith, (at l).len, slice-read-sub-mod c.before.before.before), l.loop-i.invariant.1)
 
-add-i : tie.Need-overflow-add-i invariant-loop decreases-loop
+add-i : tie.Need-overflow_add-i invariant-loop decreases-loop
 add-i c = omega arith
 
-loop-less : tie.Need-loop-smaller invariant-loop decreases-loop
+loop-less : tie.Need-loop-i-smaller invariant-loop decreases-loop
 loop-less c = omega arith
 
-loop-again : tie.Need-loop-preserved invariant-loop decreases-loop
+loop-again : tie.Need-loop-i-preserved invariant-loop decreases-loop
 loop-again c =
     let o = c.before.before.before.before.before.before.before.before.before.before.before in
     let l = o.before in
     let a = (start l).args in
     let g = place (start l) in
-    let w = c.before.before.before.before.write-check.ensures in
-    let chk = c.before.before.before.before.before.before.before.before.before.check-of in (
-      subtract_turn l.loop.invariant.0 _ _ _ (inside o)
-          (chk.ensures ∙ ap (λ (p : ℕ). (a.place.symbol - a.place.start + p) % a.code.k) (g.position l.loop.i (omega (arith, inside o, g.run_length))))
-          c.before.before.before.before.before.before.before.sub-mod.ensures w.0,
+    let w = c.before.before.before.before.write_check.ensures in
+    let chk = c.before.before.before.before.before.before.before.before.before.check_of-c in (
+      subtract_turn l.loop-i.invariant.0 _ _ _ (inside o)
+          (chk.ensures ∙ ap (λ (p : ℕ). (a.place.symbol - a.place.start + p) % a.code.k) (g.position l.loop-i.i (omega (arith, inside o, g.run_length))))
+          c.before.before.before.before.before.before.before.sub_mod-v.ensures w.0,
       w.1 ∙ ap (zero_counts _) (sym w.0),
     )
 
-same_length : tie.Need-same-length invariant-loop decreases-loop
-same_length c = c.before.loop.invariant.0.sized
+same_length : tie.Need-shape_of-s invariant-loop decreases-loop
+same_length c = c.before.loop-i.invariant.0.sized
 
-same-length-2 : tie.Need-same-length-2 invariant-loop decreases-loop
-same-length-2 c = ap length c.before.loop.invariant.1 ∙ length_zero_counts _ _ ∙ sym (ap length (start c.before).pre.5 ∙ length_zero_counts _ _)
+same-length-2 : tie.Need-shape_of-zeros invariant-loop decreases-loop
+same-length-2 c = ap length c.before.loop-i.invariant.1 ∙ length_zero_counts _ _ ∙ sym (ap length (start c.before).requires.5 ∙ length_zero_counts _ _)
 
 returns : tie.Need-returns invariant-loop decreases-loop
 returns c =
     let l = c.before in
     let b = start l in (
-      subtract_all l.loop.invariant.0 (omega (arith, (place b).run_length))
+      subtract_all l.loop-i.invariant.0 (omega (arith, (place b).run_length))
           ∙ ap (λ (is : List ℕ). subtract_at b.args.code.q b.args.h is b.args.s.now) (place b).checks_are,
-      l.loop.invariant.1,
+      l.loop-i.invariant.1,
     )
 
-pub subtract-checks-spec : {M : Type 1} → statement M
-subtract-checks-spec =
+pub subtract_checks_spec : {M : Type 1} → statement M
+subtract_checks_spec =
     tie.close
     (tie.spec
     invariant-loop

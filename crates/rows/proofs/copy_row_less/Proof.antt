@@ -68,7 +68,7 @@ sub-into-requires-2 c κs =
     let b = c.before.before.before.before.before.before.before.before.before.before in
     let a = b.args in
     let rest : ℕ = length a.src.now - a.p in
-    let len = sym (slice-aggregate-sub-into-2 c.before.before) in (
+    let len = sym (slice-aggregate-sub-into-2 c.before) in (
       omega arith,
       len ∙ simp (length-take, length-drop) (omega arith),
       len ∙ simp length-take (omega arith),

@@ -7,52 +7,52 @@ use Rattle.votes.specs.Checksum.{checksum}
 use Rattle.votes.proofs.qmtd_bench_votes_counted.Statement.{statement}
 use Rattle.votes.proofs.qmtd_bench_votes_counted.Tie as tie
 
-counters-fit-requires : tie.Need-counters-fit-requires
+counters-fit-requires : tie.Need-counters_fit-requires
 counters-fit-requires c κs = search rules
 
-same_length : tie.Need-same-length
+same_length : tie.Need-shape_of-counters-then-not-counters_fit
 same_length c = search rules
 
-returns : tie.Need-returns
-returns c = (rw (sym c.before.counters-fit.ensures ∙ not-true _ c.if1.true) refl, refl)
+returns : tie.Need-returns-then-not-counters_fit
+returns c = (rw (sym c.before.counters_fit.ensures ∙ c.if-not-counters_fit.true) refl, refl)
 
 within-requires : tie.Need-within-requires
 within-requires c κs = search rules
 
-same-length-2 : tie.Need-same-length-2
+same-length-2 : tie.Need-shape_of-counters-then-not-within
 same-length-2 c = search rules
 
-returns-2 : tie.Need-returns-2
+returns-2 : tie.Need-returns-then-not-within
 unfolding checksum
 returns-2 c =
     let e = c.before.before in (
-      rw (sym e.before.counters-fit.ensures ∙ not-false _ e.if1.false, sym c.before.within.ensures ∙ not-true _ c.if2.true) refl,
+      rw (sym e.before.counters_fit.ensures ∙ e.if-not-counters_fit.false, sym c.before.within.ensures ∙ c.if-not-within.true) refl,
       refl,
     )
 
-sum-counted-requires : tie.Need-sum-counted-requires
+sum-counted-requires : tie.Need-sum_counted-requires
 sum-counted-requires c κs =
     let t = c.before in
     let e = t.before.before in
-    let sized = within_facts _ _ _ (sym t.before.within.ensures ∙ not-false _ t.if2.false) in
-    (sized.0, sized.1, fit_zero _ (sym e.before.counters-fit.ensures ∙ not-false _ e.if1.false))
+    let sized = within_facts _ _ _ (sym t.before.within.ensures ∙ t.if-not-within.false) in
+    (sized.0, sized.1, fit_zero _ (sym e.before.counters_fit.ensures ∙ e.if-not-counters_fit.false))
 
-same-length-3 : tie.Need-same-length-3
+same-length-3 : tie.Need-shape_of-counters
 same-length-3 c = search rules
 
-returns-3 : tie.Need-returns-3
+returns-3 : tie.Need-returns
 unfolding checksum
 returns-3 c =
     let s = c.before.before in
     let t = s.before.before in
     let e = t.before.before in (
-      rw (sym e.before.counters-fit.ensures ∙ not-false _ e.if1.false, sym t.before.within.ensures ∙ not-false _ t.if2.false)
-          s.sum-counted.ensures.0,
-      s.sum-counted.ensures.1,
+      rw (sym e.before.counters_fit.ensures ∙ e.if-not-counters_fit.false, sym t.before.within.ensures ∙ t.if-not-within.false)
+          s.sum_counted.ensures.0,
+      s.sum_counted.ensures.1,
     )
 
-pub qmtd-bench-votes-counted-spec : {M : Type 1} → statement M
-qmtd-bench-votes-counted-spec =
+pub qmtd_bench_votes_counted_spec : {M : Type 1} → statement M
+qmtd_bench_votes_counted_spec =
     tie.close
     (tie.spec
     counters-fit-requires

@@ -9,17 +9,17 @@ use Rattle.votes.proofs.qmtd_bench_votes_pairs.Tie as tie
 within-requires : tie.Need-within-requires
 within-requires c κs = search rules
 
-returns : tie.Need-returns
+returns : tie.Need-returns-then-not-within
 unfolding checksum
-returns c = rw (sym c.before.within.ensures ∙ not-true _ c.if1.true) refl
+returns c = rw (sym c.before.within.ensures ∙ c.if-not-within.true) refl
 
-sum-pairs-requires : tie.Need-sum-pairs-requires
-sum-pairs-requires c κs = within_facts _ _ _ (sym c.before.within.ensures ∙ not-false _ c.if1.false)
+sum-pairs-requires : tie.Need-sum_pairs-requires
+sum-pairs-requires c κs = within_facts _ _ _ (sym c.before.within.ensures ∙ c.if-not-within.false)
 
-returns-2 : tie.Need-returns-2
+returns-2 : tie.Need-returns
 unfolding checksum
-returns-2 c = let e = c.before in rw (sym e.before.within.ensures ∙ not-false _ e.if1.false) c.sum-pairs.ensures
+returns-2 c = let e = c.before in rw (sym e.before.within.ensures ∙ e.if-not-within.false) c.sum_pairs.ensures
 
-pub qmtd-bench-votes-pairs-spec : {M : Type 1} → statement M
-qmtd-bench-votes-pairs-spec =
+pub qmtd_bench_votes_pairs_spec : {M : Type 1} → statement M
+qmtd_bench_votes_pairs_spec =
     tie.close (tie.spec within-requires returns sum-pairs-requires returns-2)
