@@ -1,6 +1,7 @@
 // The checks of a page of two-byte symbols in bytes: the syndrome, worked out in symbols on the stack and written over the checks. The symbols have
 // buffers of three sizes, each in a function of its own, so that a small code takes a small part of the stack.
 #![tactic(auto)]
+
 ghost use Rattle.std.specs.Prelude.{◌≡◌, ◌++◌, ◌*◌, ◌≤◌, length};
 ghost use Rattle.model.specs.Code.{wide16, data_count, check_count, page_length, code_word, syndrome};
 ghost use Rattle.model.specs.Decoder.{state_by, opened};

@@ -1,5 +1,6 @@
 // The C form of explain, which reads the positions of the table and writes its answer as bytes.
 #![tactic(auto)]
+
 ghost use Rattle.std.specs.Prelude.{◌≡◌, ◌≤◌};
 ghost use Rattle.model.specs.Code.{code_in};
 ghost use Rattle.model.specs.Decoder.{state_by};

@@ -1,5 +1,6 @@
 // Check symbols of two bytes as sums of rows, which are added two at a time and branch by branch: the parts that a page is encoded by, and the syndrome of a page.
 #![tactic(auto)]
+
 ghost use Rattle.std.specs.Prelude.{◌≡◌, ◌++◌, length};
 ghost use Rattle.model.specs.Code.{data_count, check_sum_by, check_symbols, syndrome};
 ghost use Rattle.model.specs.Limits.{Ascending, TableLimits};

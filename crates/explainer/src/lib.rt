@@ -1,5 +1,6 @@
 // The call explain: why a data symbol of an opened page is left or would be changed, for every form of the call, and the Rattle form.
 #![tactic(auto)]
+
 ghost use Rattle.std.specs.Prelude.{◌≡◌, true, ◌≤◌};
 ghost use Rattle.model.specs.Code.{code_of};
 ghost use Rattle.model.specs.Decoder.{state_by};

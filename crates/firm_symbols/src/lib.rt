@@ -1,5 +1,6 @@
 // Firm data symbols, of whose estimates at most one is not 0: their margins by the zeros alone, and the way past blocks of them.
 #![tactic(auto)]
+
 ghost use Rattle.std.specs.Prelude.{◌≡◌, ℕ, ◌<◌, ◌≤◌, length};
 ghost use Rattle.model.specs.Symbols.{Below};
 ghost use Rattle.firm_symbols.specs.Phases.{zeros_at, by_zeros, PastFirm};

@@ -1,5 +1,6 @@
 // The margins of a decode as the C calls hand them back: four bytes for each, low byte first, in two's complement.
 #![tactic(auto)]
+
 ghost use Rattle.std.specs.Prelude.{◌≡◌, List, map, ℕ, ◌*◌, ◌≤◌, pos, ◌-ℤ◌, length};
 ghost use Rattle.model.specs.Bytes.{twos, margin_bytes};
 ghost use Rattle.model.specs.Code.{data_count, checks_each};

@@ -1,5 +1,6 @@
 // The opening of a received page: what stands in the result, S and D before the first visit.
 #![tactic(auto)]
+
 ghost use Rattle.std.specs.Prelude.{◌≡◌};
 ghost use Rattle.model.specs.Decoder.{state_by, opened, distance_to};
 ghost use Rattle.params.specs.Codes.{code_by};

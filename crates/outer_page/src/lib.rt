@@ -1,5 +1,6 @@
 // The call encode in blocks: the tests, then the page of the data, and in it the outer check of each block.
 #![tactic(auto)]
+
 ghost use Rattle.std.specs.Prelude.{◌≡◌, ◌<◌, ◌≤◌, get_or, set};
 ghost use Rattle.model.specs.Code.{code_of, data_count, code_word, data_of};
 ghost use Rattle.model.specs.Outer.{outer_word};

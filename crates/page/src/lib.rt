@@ -1,5 +1,6 @@
 // The calls encode and syndrome: the tests, then the writing of a page or of a syndrome.
 #![tactic(auto)]
+
 ghost use Rattle.std.specs.Prelude.{◌≡◌};
 ghost use Rattle.model.specs.Code.{code_in, code_of};
 ghost use Rattle.model.specs.Calls.{encode_outcome, syndrome_outcome};

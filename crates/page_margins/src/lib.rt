@@ -1,5 +1,6 @@
 // The margins of all data symbols, from what a decode leaves.
 #![tactic(auto)]
+
 ghost use Rattle.std.specs.Prelude.{◌≡◌, List, map, ℕ, ◌≤◌, pos, ◌-ℤ◌, length};
 ghost use Rattle.model.specs.Code.{data_count};
 ghost use Rattle.model.specs.Decoder.{state_by, margins_of};

@@ -1,5 +1,6 @@
 // The run of passes over the data symbols.
 #![tactic(auto)]
+
 ghost use Rattle.std.specs.Prelude.{◌≡◌, true, ◌≤◌, length};
 ghost use Rattle.model.specs.Code.{data_count};
 ghost use Rattle.model.specs.Decoder.{state_by};

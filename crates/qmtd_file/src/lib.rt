@@ -1,5 +1,6 @@
 // The C calls on a file of pages, exported: each is the function of its C form.
 #![tactic(auto)]
+
 ghost use Rattle.std.specs.Prelude.{◌≡◌};
 ghost use Rattle.model.specs.Files.{c_read_outcome, c_write_outcome};
 

@@ -1,5 +1,6 @@
 // A visit to a data symbol: the vote over its estimates, and the change that the vote decides.
 #![tactic(auto)]
+
 ghost use Rattle.std.specs.Prelude.{◌≡◌, true, ◌+◌, ◌<◌, ◌≤◌, length, get_or, set};
 ghost use Rattle.model.specs.Code.{checks_each, checks_of};
 ghost use Rattle.model.specs.Decoder.{state_by, change};

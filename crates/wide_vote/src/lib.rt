@@ -1,5 +1,6 @@
 // The vote over estimates of up to four bytes, pair by pair, and what decides of a visit, a margin and an explanation by it.
 #![tactic(auto)]
+
 ghost use Rattle.std.specs.Prelude.{◌≡◌, false, ◌&&◌, ◌||◌, ◌+◌, ◌-◌, ◌%◌, ◌<◌, ◌≤◌, max, eqb, ltb, length};
 ghost use Rattle.model.specs.Symbols.{choose, same, count};
 ghost use Rattle.model.specs.Vote.{goes_before, leader, lead_count, other_count, equal_bits};

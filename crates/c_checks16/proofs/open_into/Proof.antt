@@ -20,25 +20,25 @@ code b = code_by16 b.args.code b.args.positions.now
 room : (b : tie.Start) → length b.args.res.now ≤ length b.args.page.now
 room b = omega (arith, b.requires.1, b.requires.2.len_result)
 
-slice-aggregate-copy-into : tie.Need-slice-aggregate-copy-into
-slice-aggregate-copy-into c = sym (length-take-le _ _ (room c.before.before.before.before.before.before.before))
+slice-aggregate-copy-into : tie.Need-slice_bounds-copy_into-end
+slice-aggregate-copy-into c = sym (length-take-le _ _ (room c.before.before.before.before.before.before))
 
-copy-into-requires : tie.Need-copy-into-requires
-copy-into-requires c κs = sym (length-take-le _ _ (room c.before.before.before.before.before.before.before))
+copy-into-requires : tie.Need-copy_into-requires
+copy-into-requires c κs = sym (length-take-le _ _ (room c.before.before.before.before.before.before))
 
 clear-requires : tie.Need-clear-requires
 clear-requires c κs = search rules
 
-syndrome-into-requires : tie.Need-syndrome-into-requires
+syndrome-into-requires : tie.Need-syndrome_into-requires
 syndrome-into-requires c κs = search rules
 
-same_length : tie.Need-same-length
+same_length : tie.Need-shape_of-res
 same_length c = search rules
 
-same-length-2 : tie.Need-same-length-2
+same-length-2 : tie.Need-shape_of-s
 same-length-2 c = search rules
 
-same-length-3 : tie.Need-same-length-3
+same-length-3 : tie.Need-shape_of-d
 same-length-3 c = search rules
 
 returns : tie.Need-returns
@@ -46,14 +46,14 @@ returns c =
     let s = c.before.before in
     let d = s.before.before.before.before in
     let r = d.before.before.before.before in
-    let known = r.before.before.before.before.before.before in
+    let known = r.before.before.before.before.before in
     let b = known.before.before in
     let page = b.args.page.now in
-    opened_bytes (code b) (symbol_size wide16) (omega arith) page (λ i. omega (arith, known.shared-slice-known2.given i)) b.requires.1 (length b.args.res.now)
-    b.requires.2.len_result _ _ _ r.copy-into.ensures s.syndrome-into.ensures (d.clear.ensures ∙ ap (λ (n : ℕ). tabulate n (λ i. 0)) b.requires.2.len_difference)
+    opened_bytes (code b) (symbol_size wide16) (omega arith) page (λ i. omega (arith, known.shared_slice_known-2-1.given i)) b.requires.1 (length b.args.res.now)
+    b.requires.2.len_result _ _ _ r.copy_into.ensures s.syndrome_into.ensures (d.clear.ensures ∙ ap (λ (n : ℕ). tabulate n (λ i. 0)) b.requires.2.len_difference)
 
-pub open-into-spec : {M : Type 1} → statement M
-open-into-spec =
+pub open_into_spec : {M : Type 1} → statement M
+open_into_spec =
     tie.close
     (tie.spec
     slice-aggregate-copy-into

@@ -30,39 +30,39 @@ code b = code_by32 b.args.code b.args.positions.now
 room : (b : tie.Start) → length b.args.«data».now ≤ length b.args.page.now
 room b = omega (arith, b.requires.1, b.requires.2)
 
-slice-relend-prefix-copy-into : tie.Need-slice-relend-prefix-copy-into
+slice-relend-prefix-copy-into : tie.Need-slice_bounds-copy_into-end
 slice-relend-prefix-copy-into c = room c.before.before.before
 
-slice-aggregate-copy-into : tie.Need-slice-aggregate-copy-into
+slice-aggregate-copy-into : tie.Need-slice_bounds-copy_into-end-2
 slice-aggregate-copy-into c = sym (length-take-le _ _ (room c.before.before.before.before))
 
-copy-into-requires : tie.Need-copy-into-requires
+copy-into-requires : tie.Need-copy_into-requires
 copy-into-requires c κs = length-take-le _ _ (room c.before.before.before.before)
 
-sub-checks : tie.Need-overflow-sub-checks
+sub-checks : tie.Need-slice_bounds-checks-count
 sub-checks c = search rules
 
-part-checks-start : tie.Need-slice-bounds-checks-start
+part-checks-start : tie.Need-slice_bounds-checks-start
 part-checks-start c = search rules
 
-part-checks-end : tie.Need-slice-bounds-checks-end
+part-checks-end : tie.Need-slice_bounds-checks-end
 part-checks-end c = search rules
 
 clear-requires : tie.Need-clear-requires
 clear-requires c κs = search rules
 
-mul-if1 : tie.Need-overflow-mul-if1
+mul-if1 : tie.Need-overflow_mul-t-11
 mul-if1 c = search rules
 
 -- the zeros that stand for the checks
-cleared : (c : tie.After-clear) → c.clear.new.0 ≡ tabulate (check_count (code (start c)) * symbol_size wide32) (λ i. 0)
+cleared : (c : tie.After-clear) → c.clear.new.s ≡ tabulate (check_count (code (start c)) * symbol_size wide32) (λ i. 0)
 cleared c =
     let b = start c in
     let n = length b.args.«data».now in
     c.clear.ensures
     ∙ ap (λ (m : ℕ). tabulate m (λ i. 0))
-    (behind_length (c.before.before.before.before.before.copy-into.new.0 ++ drop n b.args.page.now) n (check_count (code b) * symbol_size wide32)
-    (omega (arith, c.before.before.before.before.page.given, b.pre.1, b.pre.2)))
+    (behind_length (c.before.before.before.before.before.copy_into.new.dst ++ drop n b.args.page.now) n (check_count (code b) * symbol_size wide32)
+    (omega (arith, c.before.before.before.before.page-1.given, b.requires.1, b.requires.2)))
 
 -- what the work on them asks
 asked : (c : tie.After-clear) (t : ℕ)
@@ -70,69 +70,69 @@ asked : (c : tie.After-clear) (t : ℕ)
     data_count (code b) ≤ t
     → Usable (code b)
     × (length b.args.«data».now ≡ data_count (code b) * symbol_size wide32)
-    × (length c.clear.new.0 ≡ check_count (code b) * symbol_size wide32)
+    × (length c.clear.new.s ≡ check_count (code b) * symbol_size wide32)
     × (data_count (code b) ≤ t)
-asked c t h = let b = start c in (b.pre.0, b.pre.1, ap length (cleared c) ∙ length_tabulate _ _, h)
+asked c t h = let b = start c in (b.requires.0, b.requires.1, ap length (cleared c) ∙ length_tabulate _ _, h)
 
 -- and what stands there after it
 made : (c : tie.After-clear) (v : List ℕ)
     → let b = start c in
     let n = length b.args.«data».now in
-    let page : List ℕ = c.before.before.before.before.before.copy-into.new.0 ++ drop n b.args.page.now in
-    v ≡ symbol_bytes (symbol_size wide32) (syndrome (code b) (symbols_of (symbol_size wide32) b.args.«data».now ++ symbols_of (symbol_size wide32) c.clear.new.0))
+    let page : List ℕ = c.before.before.before.before.before.copy_into.new.dst ++ drop n b.args.page.now in
+    v ≡ symbol_bytes (symbol_size wide32) (syndrome (code b) (symbols_of (symbol_size wide32) b.args.«data».now ++ symbols_of (symbol_size wide32) c.clear.new.s))
     → put_mid n (length page - n) page v ≡ symbol_bytes (symbol_size wide32) (code_word (code b) (symbols_of (symbol_size wide32) b.args.«data».now))
 made c v e =
     let b = start c in
     let u = b.args.«data».now in
-    written_behind u _ (drop (length u) b.args.page.now) v c.before.before.before.before.before.copy-into.ensures
-    ∙ word_bytes (code b) (omega (arith, b.pre.0.q_low)) (symbol_size wide32) (omega arith) u
-    (λ i. omega (arith, c.before.before.before.before.before.before.before.before.shared-slice-known2.given i)) b.pre.1 v
+    written_behind u _ (drop (length u) b.args.page.now) v c.before.before.before.before.before.copy_into.ensures
+    ∙ word_bytes (code b) (omega (arith, b.requires.0.q_low)) (symbol_size wide32) (omega arith) u
+    (λ i. omega (arith, c.before.before.before.before.before.before.before.before.shared_slice_known-2-1.given i)) b.requires.1 v
     (e ∙ ap (λ (l : List ℕ). symbol_bytes (symbol_size wide32) (syndrome (code b) (symbols_of (symbol_size wide32) u ++ symbols_of (symbol_size wide32) l))) (cleared c))
 
-within-128-requires : tie.Need-within-128-requires
+within-128-requires : tie.Need-within_128-requires
 within-128-requires c κs =
     let l = c.before.before.before in
-    asked l 128 (omega (arith, c.if1.true, (start l).requires.1))
+    asked l 128 (omega (arith, c.if-n.true, (start l).requires.1))
 
-same_length : tie.Need-same-length
+same_length : tie.Need-shape_of-page-then-n
 same_length c = search rules
 
-returns : tie.Need-returns
+returns : tie.Need-returns-then-n
 returns c =
     let done = c.before.before in
-    made done.before.before.before.before _ done.within-128.ensures
+    made done.before.before.before.before _ done.within_128.ensures
 
-mul-if2 : tie.Need-overflow-mul-if2
+mul-if2 : tie.Need-overflow_mul-t-11-2
 mul-if2 c = search rules
 
-within-1024-requires : tie.Need-within-1024-requires
+within-1024-requires : tie.Need-within_1024-requires
 within-1024-requires c κs =
     let l = c.before.before.before.before in
-    asked l 1024 (omega (arith, c.if2.true, (start l).requires.1))
+    asked l 1024 (omega (arith, c.if-n-2.true, (start l).requires.1))
 
-same-length-2 : tie.Need-same-length-2
+same-length-2 : tie.Need-shape_of-page-then-n-2
 same-length-2 c = search rules
 
-returns-2 : tie.Need-returns-2
+returns-2 : tie.Need-returns-then-n-2
 returns-2 c =
     let done = c.before.before in
-    made done.before.before.before.before.before _ done.within-1024.ensures
+    made done.before.before.before.before.before _ done.within_1024.ensures
 
-within-4096-requires : tie.Need-within-4096-requires
+within-4096-requires : tie.Need-within_4096-requires
 within-4096-requires c κs =
     let l = c.before.before.before.before in
     asked l 4096 (start l).requires.0.table.sizes.data-high
 
-same-length-3 : tie.Need-same-length-3
+same-length-3 : tie.Need-shape_of-page
 same-length-3 c = search rules
 
-returns-3 : tie.Need-returns-3
+returns-3 : tie.Need-returns
 returns-3 c =
     let done = c.before.before in
-    made done.before.before.before.before.before _ done.within-4096.ensures
+    made done.before.before.before.before.before _ done.within_4096.ensures
 
-pub encode-into-spec : {M : Type 1} → statement M
-encode-into-spec =
+pub encode_into_spec : {M : Type 1} → statement M
+encode_into_spec =
     tie.close
     (tie.spec
     slice-relend-prefix-copy-into

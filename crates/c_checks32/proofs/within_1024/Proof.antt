@@ -28,68 +28,68 @@ data-room b =
 check-room : (b : tie.Start) → length (take b.args.code.k (replicate {A = ℕ} 1024 0)) ≡ b.args.code.k
 check-room b = length-take-le b.args.code.k (replicate {A = ℕ} 1024 0) (omega (arith, b.requires.3, one-branch (code b) b.requires.0.table))
 
-array-borrow-prefix-u : tie.Need-array-borrow-prefix-u
+array-borrow-prefix-u : tie.Need-slice_bounds-u-end
 array-borrow-prefix-u c = search rules
 
-slice-aggregate-sent : tie.Need-slice-aggregate-sent
+slice-aggregate-sent : tie.Need-slice_bounds-sent-end
 slice-aggregate-sent c = let b = c.before.before.before.before in omega (arith, data-room b, b.requires.1)
 
-array-borrow-prefix-v : tie.Need-array-borrow-prefix-v
+array-borrow-prefix-v : tie.Need-slice_bounds-v-end
 array-borrow-prefix-v c = let b = c.before.before.before.before in omega (arith, b.requires.3, one-branch (code b) b.requires.0.table)
 
-slice-aggregate-checks : tie.Need-slice-aggregate-checks
+slice-aggregate-checks : tie.Need-slice_bounds-checks-end
 slice-aggregate-checks c = sym (check-room c.before.before.before.before.before)
 
-read-symbols-requires : tie.Need-read-symbols-requires
+read-symbols-requires : tie.Need-read_symbols-requires
 read-symbols-requires c κs =
     let b = c.before.before.before.before.before.before in
     (omega (arith, data-room b, b.requires.1), omega (arith, data-room b, b.requires.3))
 
-read-symbols-requires-2 : tie.Need-read-symbols-requires-2
+read-symbols-requires-2 : tie.Need-read_symbols-requires-2
 read-symbols-requires-2 c κs =
-    let b = c.before.before.before.before.before.before.before.before.before.before.before in
+    let b = c.before.before.before.before.before.before.before.before.before.before in
     (omega (arith, check-room b, b.requires.2), omega (arith, check-room b, b.requires.0.table.sizes.k_high))
 
-write-syndrome-requires : tie.Need-write-syndrome-requires
+write-syndrome-requires : tie.Need-write_syndrome-requires
 write-syndrome-requires c κs =
-    let checks = c.before.before.before.before in
-    let sent = checks.before.before.before.before.before in
+    let checks = c.before.before.before in
+    let sent = checks.before.before.before.before in
     let known = sent.before.before.before.before.before in
     let b = known.before.before in
     let bytes = b.args.«data».now in (
       b.requires.0.table,
       record {
-        len = ap length sent.read-symbols.ensures ∙ symbols_length (symbol_size wide32) (omega arith) _ bytes b.requires.1;
-        low = subst (Below 4294967296) (sym sent.read-symbols.ensures) (symbols_below (symbol_size wide32) bytes (λ i. omega (arith, known.shared-slice-known2.given i)));
+        len = ap length sent.read_symbols.ensures ∙ symbols_length (symbol_size wide32) (omega arith) _ bytes b.requires.1;
+        low = subst (Below 4294967296) (sym sent.read_symbols.ensures) (symbols_below (symbol_size wide32) bytes (λ i. omega (arith, known.shared_slice_known-2-1.given i)));
       },
-      ap length checks.read-symbols2.ensures ∙ symbols_length (symbol_size wide32) (omega arith) _ b.args.s.now b.requires.2,
+      ap length checks.read_symbols-2.ensures ∙ symbols_length (symbol_size wide32) (omega arith) _ b.args.s.now b.requires.2,
     )
 
-write-symbols-requires : tie.Need-write-symbols-requires
+write-symbols-requires : tie.Need-write_symbols-requires
 write-symbols-requires c κs =
-    let wrote = c.before.before.before.before.before in
-    let checks = wrote.before.before.before.before.before in
-    let sent = checks.before.before.before.before.before in
+    let wrote = c.before.before.before.before in
+    let checks = wrote.before.before.before.before in
+    let sent = checks.before.before.before.before in
     let b = sent.before.before.before.before.before.before.before in
-    let e = syndrome_length (code b) _ _ _ _ _ sent.read-symbols.ensures checks.read-symbols2.ensures wrote.write-syndrome.ensures in
+    let e = syndrome_length (code b) _ _ _ _ _ sent.read_symbols.ensures checks.read_symbols-2.ensures wrote.write_syndrome.ensures in
     (omega (arith, e, b.requires.2), omega (arith, e, b.requires.0.table.sizes.k_high))
 
-same_length : tie.Need-same-length
+same_length : tie.Need-shape_of-s
 same_length c = search rules
 
 returns : tie.Need-returns
 returns c =
     let put = c.before.before.before in
-    let wrote = put.before.before.before.before.before.before in
-    let checks = wrote.before.before.before.before.before in
-    let sent = checks.before.before.before.before.before in
+    let wrote = put.before.before.before.before.before in
+    let checks = wrote.before.before.before.before in
+    let sent = checks.before.before.before.before in
     let b = sent.before.before.before.before.before.before.before in
-    put.write-symbols.ensures
+    put.write_symbols.ensures
     ∙ ap (symbol_bytes (symbol_size wide32))
-    (syndrome_parts (code b) _ _ _ _ _ sent.read-symbols.ensures checks.read-symbols2.ensures wrote.write-syndrome.ensures)
+    (syndrome_parts (code b) _ _ _ _ _ sent.read_symbols.ensures checks.read_symbols-2.ensures wrote.write_syndrome.ensures)
 
-pub within-1024-spec : {M : Type 1} → statement M
-within-1024-spec =
+pub within_1024_spec : {M : Type 1} → statement M
+within_1024_spec =
     tie.close
     (tie.spec
     array-borrow-prefix-u

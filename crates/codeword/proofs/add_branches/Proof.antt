@@ -63,28 +63,24 @@ loop-holds c =
 
 -- ---- the branches after it
 
--- where the length of a run is known, from the loop's head
-abbrev known : tie.At-loop-r invariant-loop decreases-loop → tie.After-checks_each-each invariant-loop decreases-loop
-known h = h.before.before.before.before.before.before.before
-
 abbrev code : tie.Start invariant-loop decreases-loop → Code
 code b = code_by b.args.code b.args.positions.now
 
 sums-are : (h : tie.At-loop-r invariant-loop decreases-loop)
-    → let b = start (known h) in
+    → let b = h.before.before.before.before.before.before.before.before.before.before in
     h.loop-r.sums ≡ added b.args.code.q (rest_sum (code b) b.args.«data».now h.loop-r.r) b.args.sums.now
 sums-are h =
-    let m = known h in
-    let b = start m in
+    let m = h.before.before.before.before.before.before in
+    let b = m.before.before.before.before in
     h.loop-r.invariant.1 b.args.sums.now
     (h.before.before.before.add_rows.ensures
     ∙ rest_added (code b) b.requires.0.table _ b.requires.1.len 0 _ _ (first_lent (code b) b.requires.0.table _ m.checks_each-each.ensures _) _ _ (rest_none (code b) _ _ _ b.requires.2))
 
 sums-below : (h : tie.At-loop-r invariant-loop decreases-loop)
-    → let x = (start (known h)).args in
+    → let x = (h.before.before.before.before.before.before.before.before.before.before).args in
     SymbolsBelow x.code.q x.code.k h.loop-r.sums
 sums-below h =
-    let b = start (known h) in
+    let b = h.before.before.before.before.before.before.before.before.before.before in
     added_below b.args.code.q (omega (arith, b.requires.0.q_low)) b.args.code.k _ _ _ b.requires.2.len (sums-are h)
 
 more : (c : tie.In-loop-r invariant-loop decreases-loop) → c.before.before.loop-r.r < (start (c.before.before.before.before.before.before.before.before)).args.code.b

@@ -77,7 +77,7 @@ add-branches-requires c κs =
     let b = r.before.before.before.before.before.before.before.before in
     let x = b.args in (
       b.requires.0,
-      all-data r.before.before.before.before.before,
+      all-data r.before.before.before.before,
       subst (SymbolsBelow x.code.q x.code.k) (sym r.copy_row_less.ensures)
           (less_below x.code.q (omega (arith, b.requires.0.q_low)) x.code.k _ _ (row_length _ (take x.code.k x.page.now) ∙ front b)),
     )

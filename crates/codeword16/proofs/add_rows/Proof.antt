@@ -13,45 +13,45 @@ use Rattle.codeword.specs.Sums.{added, rows_turn, rows_two, rows_end, each_below
 use Rattle.codeword16.proofs.add_rows.Statement.{statement}
 use Rattle.codeword16.proofs.add_rows.Tie as tie
 
-abbrev invariant-loop : tie.invariant-loop
+abbrev invariant-loop : tie.invariant-loop-n
 invariant-loop positions «data» sums₀ n₀ sums n =
     (n ≤ length positions)
     × SymbolsBelow 65536 (length «data») sums
     × (added 65536 (check_sum_by (length «data») (drop n positions) «data») sums ≡ added 65536 (check_sum_by (length «data») positions «data») sums₀)
 
-abbrev decreases-loop : tie.decreases-loop
+abbrev decreases-loop : tie.decreases-loop-n
 decreases-loop positions «data» sums₀ n₀ sums n = length positions - n
 
-loop-holds : tie.Need-loop-init invariant-loop decreases-loop
+loop-holds : tie.Need-loop-n-init invariant-loop decreases-loop
 loop-holds c = let b = c.before.before.before in (omega arith, b.requires.1, refl)
 
-add-loop : tie.Need-overflow-add-loop invariant-loop decreases-loop
+add-loop : tie.Need-overflow_add-n invariant-loop decreases-loop
 add-loop c = omega arith
 
-mul-p : tie.Need-overflow-mul-p invariant-loop decreases-loop
+mul-p : tie.Need-offset_bounds-positions-n invariant-loop decreases-loop
 mul-p c = omega arith
 
-shared-slice-read-p : tie.Need-shared-slice-read-p invariant-loop decreases-loop
+shared-slice-read-p : tie.Need-bounds-positions-n invariant-loop decreases-loop
 shared-slice-read-p c = omega arith
 
-cast-p : tie.Need-overflow-cast-p invariant-loop decreases-loop
-cast-p c = omega (arith, c.shared-slice-known3.given c.before.before.loop.n)
+cast-p : tie.Need-overflow_cast-p invariant-loop decreases-loop
+cast-p c = omega (arith, c.shared_slice_known-in-loop-n-1.given c.before.before.loop-n.n)
 
-add_r : tie.Need-overflow-add-r invariant-loop decreases-loop
+add_r : tie.Need-overflow_add-r invariant-loop decreases-loop
 add_r c = omega arith
 
-mul-r : tie.Need-overflow-mul-r invariant-loop decreases-loop
+mul-r : tie.Need-offset_bounds-positions-n-in-loop-n invariant-loop decreases-loop
 mul-r c = omega arith
 
-shared-slice-read-r : tie.Need-shared-slice-read-r invariant-loop decreases-loop
+shared-slice-read-r : tie.Need-bounds-positions-n-in-loop-n invariant-loop decreases-loop
 shared-slice-read-r c = omega arith
 
-cast-r : tie.Need-overflow-cast-r invariant-loop decreases-loop
-cast-r c = omega (arith, c.shared-slice-known4.given (c.before.before.before.loop.n + 1))
+cast-r : tie.Need-overflow_cast-r invariant-loop decreases-loop
+cast-r c = omega (arith, c.shared_slice_known-in-loop-n-2-1.given (c.before.before.before.loop-n.n + 1))
 
-add-two-rows-requires : tie.Need-add-two-rows-requires invariant-loop decreases-loop
+add-two-rows-requires : tie.Need-add_two_rows-requires invariant-loop decreases-loop
 add-two-rows-requires c κs =
-    let i = c.before.before.before.before.loop in
+    let i = c.before.before.before.before.loop-n in
     let b = c.before.before.before.before.before.before.before.before in
     let ps : List ℕ = b.args.positions.now in
     let up : get_or ps i.n 0 < get_or ps (i.n + 1) 0 = rw (add-one i.n) (b.requires.0.above i.n (omega arith)) in (
@@ -60,22 +60,22 @@ add-two-rows-requires c κs =
       omega (arith, up, b.requires.0.below (i.n + 1) (omega arith)),
     )
 
-add-n : tie.Need-overflow-add-n invariant-loop decreases-loop
+add-n : tie.Need-overflow_add-n-in-loop-n invariant-loop decreases-loop
 add-n c = omega arith
 
-loop-less : tie.Need-loop-smaller invariant-loop decreases-loop
+loop-less : tie.Need-loop-n-smaller invariant-loop decreases-loop
 loop-less c = omega arith
 
-loop-again : tie.Need-loop-preserved invariant-loop decreases-loop
+loop-again : tie.Need-loop-n-preserved invariant-loop decreases-loop
 loop-again c =
-    let i = c.before.before.before.before.before.before.before.loop in
+    let i = c.before.before.before.before.before.before.before.loop-n in
     let b = c.before.before.before.before.before.before.before.before.before.before.before in
     let q : ℕ = 65536 in
     let ps : List ℕ = b.args.positions.now in
     let u : List ℕ = b.args.«data».now in
     let first : List ℕ = row (get_or ps i.n 0) u in
     let second : List ℕ = row (get_or ps (i.n + 1) 0) u in
-    let e = c.before.before.add-two-rows.ensures in (
+    let e = c.before.before.add_two_rows.ensures in (
       omega arith,
       subst (SymbolsBelow q (length u)) (sym e)
           (each_below q (omega arith) (length u) (add_each q i.sums first) second (each_length q i.sums first ∙ i.invariant.1.len)),
@@ -83,27 +83,27 @@ loop-again c =
           ∙ sym (rows_two q ps u i.sums i.n i.invariant.1.len (omega arith)) ∙ i.invariant.2,
     )
 
-mul-p-2 : tie.Need-overflow-mul-p-2 invariant-loop decreases-loop
+mul-p-2 : tie.Need-offset_bounds-positions-n-then-n-positions invariant-loop decreases-loop
 mul-p-2 c = omega arith
 
-shared-slice-read-p-2 : tie.Need-shared-slice-read-p-2 invariant-loop decreases-loop
+shared-slice-read-p-2 : tie.Need-bounds-positions-n-then-n-positions invariant-loop decreases-loop
 shared-slice-read-p-2 c = omega arith
 
-cast-p-2 : tie.Need-overflow-cast-p-2 invariant-loop decreases-loop
-cast-p-2 c = omega (arith, c.shared-slice-known5.given c.before.before.before.loop.n)
+cast-p-2 : tie.Need-overflow_cast-p-then-n-positions invariant-loop decreases-loop
+cast-p-2 c = omega (arith, c.shared_slice_known-then-n-positions-1.given c.before.before.before.loop-n.n)
 
-add-row-requires : tie.Need-add-row-requires invariant-loop decreases-loop
+add-row-requires : tie.Need-add_row-requires invariant-loop decreases-loop
 add-row-requires c κs =
-    let i = c.before.before.before.before.loop in
+    let i = c.before.before.before.before.loop-n in
     let b = c.before.before.before.before.before.before.before.before in
     (i.invariant.1.len, b.requires.0.below i.n (omega arith))
 
-same_length : tie.Need-same-length invariant-loop decreases-loop
+same_length : tie.Need-shape_of-sums-then-n-positions invariant-loop decreases-loop
 same_length c = omega arith
 
-returns : tie.Need-returns invariant-loop decreases-loop
+returns : tie.Need-returns-then-n-positions invariant-loop decreases-loop
 returns c =
-    let i = c.before.before.before.before.before.before.before.loop in
+    let i = c.before.before.before.before.before.before.before.loop-n in
     let b = c.before.before.before.before.before.before.before.before.before.before.before in
     let q : ℕ = 65536 in
     let ps : List ℕ = b.args.positions.now in
@@ -113,17 +113,17 @@ returns c =
     ∙ rows_end q ps u (add_each q i.sums last) (i.n + 1) (each_below q (omega arith) (length u) i.sums last i.invariant.1.len) (omega arith)
     ∙ sym (rows_turn q ps u i.sums i.n i.invariant.1.len (omega arith)) ∙ i.invariant.2
 
-same-length-2 : tie.Need-same-length-2 invariant-loop decreases-loop
+same-length-2 : tie.Need-shape_of-sums-else-n-positions invariant-loop decreases-loop
 same-length-2 c = omega arith
 
-returns-2 : tie.Need-returns-2 invariant-loop decreases-loop
+returns-2 : tie.Need-returns-else-n-positions invariant-loop decreases-loop
 returns-2 c =
-    let i = c.before.before.loop in
+    let i = c.before.before.loop-n in
     let x = c.before.before.before.before.before.before.args in
     rows_end 65536 x.positions.now x.«data».now i.sums i.n i.invariant.1 (omega arith) ∙ i.invariant.2
 
-pub add-rows-spec : {M : Type 1} → statement M
-add-rows-spec =
+pub add_rows_spec : {M : Type 1} → statement M
+add_rows_spec =
     tie.close
     (tie.spec
     invariant-loop

@@ -12,15 +12,11 @@ use Rattle.codeword.specs.Rest.{some_position, first_inside, one-branch}
 use Rattle.codeword32.proofs.first_row.Statement.{statement}
 use Rattle.codeword32.proofs.first_row.Tie as tie
 
-shared-slice-read-first : tie.Need-shared-slice-read-first
+shared-slice-read-first : tie.Need-bounds-positions-0
 shared-slice-read-first c = let b = c.before.before.before.before in omega (arith, some_position _ b.requires.0)
 
-cast-first : tie.Need-overflow-cast-first
-cast-first c = omega (arith, c.shared-slice-known3.given 0)
-
--- the start, from where the first row is copied
-abbrev start : tie.After-copy-row-arg2 → tie.Start
-start c = c.before.before.before.before.before.before
+cast-first : tie.Need-overflow_cast-first
+cast-first c = omega (arith, c.shared_slice_known-3-1.given 0)
 
 -- branch 0 of the data
 whole : (b : tie.Start) → b.args.code.k ≤ length b.args.«data».now
@@ -33,28 +29,28 @@ front b =
       low = below_part 4294967296 (omega arith) 0 x.code.k x.«data».now b.requires.1.low;
     }
 
-slice-aggregate-copy-row : tie.Need-slice-aggregate-copy-row
-slice-aggregate-copy-row c = sym (front (start c)).len
+slice-aggregate-copy-row : tie.Need-slice_bounds-copy_row-end
+slice-aggregate-copy-row c = sym (front c.before.before.before.before.before).len
 
-copy-row-requires : tie.Need-copy-row-requires
+copy-row-requires : tie.Need-copy_row-requires
 copy-row-requires c κs =
-    let b = start c in
-    (b.pre.2 ∙ sym (front b).len, omega (arith, (front b).len, first_inside _ b.pre.0))
+    let b = c.before.before.before.before.before in
+    (b.requires.2 ∙ sym (front b).len, omega (arith, (front b).len, first_inside _ b.requires.0))
 
-same_length : tie.Need-same-length
+same_length : tie.Need-shape_of-checks
 same_length c = search rules
 
 returns : tie.Need-returns
 returns c =
     let r = c.before.before in
-    let b = start r.before in
+    let b = r.before.before.before.before.before.before in
     let x = b.args in (
-      r.copy-row.ensures,
-      subst (SymbolsBelow 4294967296 x.code.k) (sym r.copy-row.ensures) (row_below 4294967296 (omega arith) x.code.k _ _ (front b)),
+      r.copy_row.ensures,
+      subst (SymbolsBelow 4294967296 x.code.k) (sym r.copy_row.ensures) (row_below 4294967296 (omega arith) x.code.k _ _ (front b)),
     )
 
-pub first-row-spec : {M : Type 1} → statement M
-first-row-spec =
+pub first_row_spec : {M : Type 1} → statement M
+first_row_spec =
     tie.close
     (tie.spec
     shared-slice-read-first

@@ -9,13 +9,13 @@ use Rattle.symbols32.specs.Codes.{code_by32}
 use Rattle.codeword32.proofs.write_checks.Statement.{statement}
 use Rattle.codeword32.proofs.write_checks.Tie as tie
 
-first-row-requires : tie.Need-first-row-requires
+first-row-requires : tie.Need-first_row-requires
 first-row-requires c κs = search rules
 
-add-branches-requires : tie.Need-add-branches-requires
+add-branches-requires : tie.Need-add_branches-requires
 add-branches-requires c κs = search rules
 
-same_length : tie.Need-same-length
+same_length : tie.Need-shape_of-checks
 same_length c = search rules
 
 returns : tie.Need-returns
@@ -24,9 +24,9 @@ returns c =
     let b = f.before.before.before.before.before in
     let x = b.args in
     let code = code_by32 x.code x.positions.now in
-    c.before.before.add-branches.ensures ∙ ap (added 4294967296 (rest_sum code x.«data».now x.code.b)) f.first-row.ensures.0
+    c.before.before.add_branches.ensures ∙ ap (added 4294967296 (rest_sum code x.«data».now x.code.b)) f.first_row.ensures.0
     ∙ checks_written code b.requires.0 x.«data».now (omega (arith, b.requires.1.len, one-branch code b.requires.0))
 
-pub write-checks-spec : {M : Type 1} → statement M
-write-checks-spec =
+pub write_checks_spec : {M : Type 1} → statement M
+write_checks_spec =
     tie.close (tie.spec first-row-requires add-branches-requires same_length returns)

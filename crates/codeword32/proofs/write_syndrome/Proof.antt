@@ -13,54 +13,50 @@ use Rattle.symbols32.specs.Codes.{code_by32}
 use Rattle.codeword32.proofs.write_syndrome.Statement.{statement}
 use Rattle.codeword32.proofs.write_syndrome.Tie as tie
 
-shared-slice-read-first : tie.Need-shared-slice-read-first
+shared-slice-read-first : tie.Need-bounds-positions-0
 shared-slice-read-first c = let b = c.before.before.before.before in omega (arith, some_position _ b.requires.0)
 
-cast-first : tie.Need-overflow-cast-first
-cast-first c = omega (arith, c.shared-slice-known3.given 0)
-
--- the start, from where the first row is written
-abbrev start : tie.After-less-row-arg2 → tie.Start
-start c = c.before.before.before.before.before.before
+cast-first : tie.Need-overflow_cast-first
+cast-first c = omega (arith, c.shared_slice_known-3-1.given 0)
 
 -- branch 0 of the data
 front : (b : tie.Start) → length (take b.args.code.k b.args.«data».now) ≡ b.args.code.k
 front b = length-take-le b.args.code.k b.args.«data».now (omega (arith, b.requires.1.len, one-branch _ b.requires.0))
 
-slice-aggregate-less-row : tie.Need-slice-aggregate-less-row
-slice-aggregate-less-row c = sym (front (start c))
+slice-aggregate-less-row : tie.Need-slice_bounds-less_row-end
+slice-aggregate-less-row c = sym (front c.before.before.before.before.before)
 
-less-row-requires : tie.Need-less-row-requires
+less-row-requires : tie.Need-less_row-requires
 less-row-requires c κs =
-    let b = start c in
-    (b.pre.2 ∙ sym (front b), omega (arith, front b, first_inside _ b.pre.0))
+    let b = c.before.before.before.before.before in
+    (b.requires.2 ∙ sym (front b), omega (arith, front b, first_inside _ b.requires.0))
 
-add-branches-requires : tie.Need-add-branches-requires
+add-branches-requires : tie.Need-add_branches-requires
 add-branches-requires c κs =
     let r = c.before.before.before in
-    let b = start r.before in
+    let b = r.before.before.before.before.before.before in
     let x = b.args in (
-      b.pre.0,
-      b.pre.1,
-      subst (SymbolsBelow 4294967296 x.code.k) (sym r.less-row.ensures)
+      b.requires.0,
+      b.requires.1,
+      subst (SymbolsBelow 4294967296 x.code.k) (sym r.less_row.ensures)
           (less_below 4294967296 (omega arith) x.code.k _ _ (row_length _ (take x.code.k x.«data».now) ∙ front b)),
     )
 
-same_length : tie.Need-same-length
+same_length : tie.Need-shape_of-s
 same_length c = search rules
 
 returns : tie.Need-returns
 returns c =
     let r = c.before.before.before.before.before.before in
-    let b = start r.before in
+    let b = r.before.before.before.before.before.before in
     let x = b.args in
     let code = code_by32 x.code x.positions.now in
-    c.before.before.add-branches.ensures
-    ∙ ap (added 4294967296 (rest_sum code x.«data».now x.code.b)) r.less-row.ensures
-    ∙ syndrome_over code b.pre.0 x.«data».now x.s.now b.pre.1.len
+    c.before.before.add_branches.ensures
+    ∙ ap (added 4294967296 (rest_sum code x.«data».now x.code.b)) r.less_row.ensures
+    ∙ syndrome_over code b.requires.0 x.«data».now x.s.now b.requires.1.len
 
-pub write-syndrome-spec : {M : Type 1} → statement M
-write-syndrome-spec =
+pub write_syndrome_spec : {M : Type 1} → statement M
+write_syndrome_spec =
     tie.close
     (tie.spec
     shared-slice-read-first

@@ -38,33 +38,33 @@ above (negsuc n) f e = let z : ◌≡◌ {A = ℕ} 0 1 = cc in absurd (omega ari
 same : (c : tie.Start) → to_z w32 (of_z w32 c.args.x) ≡ c.args.x
 same c = to_z-of_z w32 c.args.x c.ranges.x
 
-taken : (c : tie.Then1) → Below c.before.args.x
-taken c = below _ c.before.ranges.x (rw (same c.before) at c.if1.true)
+taken : (c : tie.Then-x-lt0) → Below c.before.args.x
+taken c = below _ c.before.ranges.x (rw (same c.before) at c.if-x-lt0.true)
 
-left : (c : tie.Else1) → Above c.before.args.x
-left c = above _ c.before.ranges.x (rw (same c.before) at c.if1.false)
+left : (c : tie.Else-x-lt0) → Above c.before.args.x
+left c = above _ c.before.ranges.x (rw (same c.before) at c.if-x-lt0.false)
 
-sub-result : tie.Need-overflow-sub-result
+sub-result : tie.Need-overflow_sub-result
 sub-result c = rw (same c.before, (taken c).other) (record { sfits = (taken c).small })
 
-read : (c : tie.Then1) → to_z w32 (of_z w32 (negsuc 0 -ℤ to_z w32 (of_z w32 c.before.args.x))) ≡ pos (taken c).n
+read : (c : tie.Then-x-lt0) → to_z w32 (of_z w32 (negsuc 0 -ℤ to_z w32 (of_z w32 c.before.args.x))) ≡ pos (taken c).n
 read c = to_z-of_z w32 _ (sub-result c) ∙ rw (same c.before, (taken c).other)
 
-cast-result : tie.Need-overflow-cast-result
+cast-result : tie.Need-overflow_cast-result
 cast-result c = let h = (taken c).small in rw (read c) (tt, omega arith)
 
-sub-result-2 : tie.Need-overflow-sub-result-2
+sub-result-2 : tie.Need-overflow_sub-result-then-x-lt0
 sub-result-2 c = let h = (taken c).small in rw (read c) (omega arith)
 
-cast-result-2 : tie.Need-overflow-cast-result-2
+cast-result-2 : tie.Need-overflow_cast-result-else-x-lt0
 cast-result-2 c = let h = (left c).small in rw (same c.before, (left c).is) (tt, omega arith)
 
-returns : tie.Need-returns
+returns : tie.Need-returns-then-x-lt0
 returns c = rw (read c) (sym (ap twos (taken c).is))
 
-returns-2 : tie.Need-returns-2
+returns-2 : tie.Need-returns-else-x-lt0
 returns-2 c = rw (same c.before, (left c).is)
 
-pub twos-of-spec : {M : Type 1} → statement M
-twos-of-spec =
+pub twos_of_spec : {M : Type 1} → statement M
+twos_of_spec =
     tie.close (tie.spec sub-result cast-result sub-result-2 cast-result-2 returns returns-2)

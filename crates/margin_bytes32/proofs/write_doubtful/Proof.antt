@@ -132,7 +132,7 @@ loop-again c =
     let t = turn m.before.before.before in
     let i = t.before.loop.inv in (
       bytes_turn i.0 (omega (arith, (placed t).inside, (start t.before).pre.2)) _ _
-          (n.twos-of.ensures ∙ ap twos (read_back _ m.margin-counted.type-inv ∙ placed_margin (place t) _ refl _ _ m.margin-counted.ensures)) put.put_word.ensures,
+          (n.twos-of.ensures ∙ ap twos (read_back _ m.margin-counted.type_inv ∙ placed_margin (place t) _ refl _ _ m.margin-counted.ensures)) put.put_word.ensures,
       omega (arith, i.1),
       omega arith,
     )

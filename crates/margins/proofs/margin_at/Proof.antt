@@ -54,7 +54,7 @@ returns : tie.Need-returns-then-zeros-n
 returns c =
     let q = c.before.before in
     let k = counted q in
-    read_back _ c.margin_of.type-inv ∙ c.margin_of.ensures ∙ ap (λ (n : ℕ). pos n -ℤ pos 0) k.zero-count
+    read_back _ c.margin_of.type_inv ∙ c.margin_of.ensures ∙ ap (λ (n : ℕ). pos n -ℤ pos 0) k.zero-count
     ∙ margin_firm (estimates q) (omega (arith, k.zero-count, k.len, c.before.if-zeros-n.true))
 
 cast-if2 : tie.Need-overflow_cast-zeros-2
@@ -70,7 +70,7 @@ returns-2 : tie.Need-returns-then-zeros-n-2
 returns-2 c =
     let q = c.before.before.before in
     let k = counted q in
-    read_back _ c.margin_of-then-zeros-n-2.type-inv ∙ c.margin_of-then-zeros-n-2.ensures ∙ ap (λ (n : ℕ). pos n -ℤ pos 1) k.zero-count
+    read_back _ c.margin_of-then-zeros-n-2.type_inv ∙ c.margin_of-then-zeros-n-2.ensures ∙ ap (λ (n : ℕ). pos n -ℤ pos 1) k.zero-count
     ∙ margin_but_one (estimates q) (omega (arith, k.zero-count, k.len, c.before.if-zeros-n-2.true))
 
 margin-counted-requires : tie.Need-margin_counted-requires
@@ -80,7 +80,7 @@ margin-counted-requires c κs =
     (p.0, p.1, (counted q).zero-count, p.3)
 
 returns-3 : tie.Need-returns
-returns-3 c = read_back _ c.margin_counted.type-inv ∙ c.margin_counted.ensures
+returns-3 c = read_back _ c.margin_counted.type_inv ∙ c.margin_counted.ensures
 
 pub margin_at_spec : {M : Type 1} → statement M
 margin_at_spec =

@@ -34,7 +34,7 @@ unfolding margin
 returns c =
     let o = c.before in
     let b = o.before.before.before in
-    read_back _ c.margin_of.type-inv ∙ c.margin_of.ensures ∙ ap (λ (n : ℕ). pos n -ℤ pos o.most_other_at.result) b.requires.2
+    read_back _ c.margin_of.type_inv ∙ c.margin_of.ensures ∙ ap (λ (n : ℕ). pos n -ℤ pos o.most_other_at.result) b.requires.2
     ∙ ap (λ (n : ℕ). pos (count 0 (estimates b)) -ℤ pos n) o.most_other_at.ensures
 
 pub margin_counted_spec : {M : Type 1} → statement M

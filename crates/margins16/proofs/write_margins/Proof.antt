@@ -136,7 +136,7 @@ loop2-again c =
     let e = c.along.ensures in (
       in_along b.pre.0.table w t.if2.taken _ e,
       rw (ap (λ (x : Place). x.symbol) e) (front_turn _ _ _ _ i.loop2.inv.1 (omega (arith, (placed t).inside, b.pre.2)) _
-          (read_back _ m.type-inv ∙ placed_margin (place t) _ (same_run w _) _ _ m.ensures)),
+          (read_back _ m.type_inv ∙ placed_margin (place t) _ (same_run w _) _ _ m.ensures)),
     )
 
 onward-requires : tie.Need-onward-requires invariant-loop2 decreases-loop2 invariant-loop decreases-loop

@@ -50,7 +50,7 @@ returns : tie.Need-returns
 returns c =
     let q = c.before.before in
     let k = counted q in
-    read_back _ c.margin-of.type-inv ∙ c.margin-of.ensures ∙ ap (λ (n : ℕ). pos n -ℤ pos 0) k.zero-count
+    read_back _ c.margin-of.type_inv ∙ c.margin-of.ensures ∙ ap (λ (n : ℕ). pos n -ℤ pos 0) k.zero-count
     ∙ margin_firm (estimates q) (omega (arith, k.zero-count, k.len, c.before.if1.true))
 
 cast-if2 : tie.Need-overflow-cast-if2
@@ -66,7 +66,7 @@ returns-2 : tie.Need-returns-2
 returns-2 c =
     let q = c.before.before.before in
     let k = counted q in
-    read_back _ c.margin-of2.type-inv ∙ c.margin-of2.ensures ∙ ap (λ (n : ℕ). pos n -ℤ pos 1) k.zero-count
+    read_back _ c.margin-of2.type_inv ∙ c.margin-of2.ensures ∙ ap (λ (n : ℕ). pos n -ℤ pos 1) k.zero-count
     ∙ margin_but_one (estimates q) (omega (arith, k.zero-count, k.len, c.before.if2.true))
 
 margin-counted-requires : tie.Need-margin-counted-requires
@@ -76,7 +76,7 @@ margin-counted-requires c κs =
     (p.0, p.1, (counted q).zero-count)
 
 returns-3 : tie.Need-returns-3
-returns-3 c = read_back _ c.margin-counted.type-inv ∙ c.margin-counted.ensures
+returns-3 c = read_back _ c.margin-counted.type_inv ∙ c.margin-counted.ensures
 
 pub margin-at-spec : {M : Type 1} → statement M
 margin-at-spec =

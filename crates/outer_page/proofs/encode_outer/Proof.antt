@@ -39,127 +39,123 @@ taken c L u n h e =
 sized : (b : tie.Start) → b.args.b * b.args.k + b.args.k ≤ 18446744073709551615
 sized b = sizes_fit b.args.k b.args.b (omega (arith, b.ranges.k)) (omega (arith, b.ranges.b))
 
-data-count-requires : tie.Need-data-count-requires
+data-count-requires : tie.Need-data_count-n-requires
 data-count-requires c κs = omega (arith, sized c.before.before.before)
 
-add-two-fit : tie.Need-overflow-add-two-fit
-add-two-fit c = omega (arith, sized c.before.before.before.before.before, c.before.data-count.ensures)
+add-two-fit : tie.Need-overflow_add-n
+add-two-fit c = omega (arith, sized c.before.before.before.before.before, c.before.data_count-n.ensures)
 
-two-fit-requires : tie.Need-two-fit-requires
+two-fit-requires : tie.Need-two_fit-fits-requires
 two-fit-requires c κs = search rules
 
-encode-outer-answer-requires : tie.Need-encode-outer-answer-requires
+encode-outer-answer-requires : tie.Need-encode_outer_answer-number-requires
 encode-outer-answer-requires c κs = search rules
-
--- the start, from where the tests are made
-abbrev start : tie.After-encode-outer-answer → tie.Start
-start p = p.before.before.before.before.before.before.before
 
 -- the call's code
 abbrev code : tie.Start → Code
 code b = code_of b.args.q b.args.k b.args.b b.args.positions.now
 
 -- the number returned is that of encode in blocks
-number : (p : tie.After-encode-outer-answer)
-    → let b = start p in
-    p.encode-outer-answer.result ≡ encode_outer_answer (code b) b.args.block b.args.«data».now (length b.args.page.now)
+number : (p : tie.After-encode_outer_answer-number)
+    → let b = p.before.before.before.before.before.before.before in
+    p.encode_outer_answer-number.result ≡ encode_outer_answer (code b) b.args.block b.args.«data».now (length b.args.page.now)
 unfolding encode_outer_answer
 number p =
-    let b = start p in
+    let b = p.before.before.before.before.before.before.before in
     let a = b.args in
-    p.encode-outer-answer.ensures
+    p.encode_outer_answer-number.ensures
     ∙ ap (λ (fits : Bool). first_that_applies (page_tests (code b) fits a.«data».now ++ block_test (code b) a.block))
-    (p.before.two-fit.ensures ∙ ap (λ (n : ℕ). eqb (length a.«data».now) n && eqb (length a.page.now) (n + a.k)) p.before.before.before.data-count.ensures)
+    (p.before.two_fit-fits.ensures ∙ ap (λ (n : ℕ). eqb (length a.«data».now) n && eqb (length a.page.now) (n + a.k)) p.before.before.before.data_count-n.ensures)
 
 -- it is 0 where the call is not refused
-done : (c : tie.Else1)
-    → let b = start c.before in
+done : (c : tie.Else-number-ne0)
+    → let b = c.before.before.before.before.before.before.before.before in
     encode_outer_answer (code b) b.args.block b.args.«data».now (length b.args.page.now) ≡ 0
-done c = sym (number c.before) ∙ c.if1.false
+done c = sym (number c.before) ∙ c.if-number-ne0.false
 
-returns : tie.Need-returns
+returns : tie.Need-returns-then-number-ne0
 unfolding encode_outer_outcome
-returns c = (left_as_lent _ _ _ _ (number c.before) c.if1.true, λ e. absurd (c.if1.true e))
+returns c = (left_as_lent _ _ _ _ (number c.before) c.if-number-ne0.true, λ e. absurd (c.if-number-ne0.true e))
 
 -- what it works on then
-works : (c : tie.Else1)
-    → let b = start c.before in
+works : (c : tie.Else-number-ne0)
+    → let b = c.before.before.before.before.before.before.before.before in
     Usable (code b) × ByteCode (code b) × BlockFits (code b) b.args.block × SymbolsBelow b.args.q (data_count (code b)) b.args.«data».now
     × (length b.args.page.now ≡ page_length (code b))
-works c = let b = start c.before in taken (code b) b.args.block b.args.«data».now (length b.args.page.now) (omega arith) (done c)
+works c = let b = c.before.before.before.before.before.before.before.before in taken (code b) b.args.block b.args.«data».now (length b.args.page.now) (omega arith) (done c)
 
 -- the data fits into the page
-room : (c : tie.Else1) → let b = start c.before in length b.args.«data».now ≤ length b.args.page.now
+room : (c : tie.Else-number-ne0) → let b = c.before.before.before.before.before.before.before.before in length b.args.«data».now ≤ length b.args.page.now
 room c = omega (arith, (works c).3.len, (works c).4)
 
-slice-relend-prefix-copy-into : tie.Need-slice-relend-prefix-copy-into
+slice-relend-prefix-copy-into : tie.Need-slice_bounds-copy_into-end
 slice-relend-prefix-copy-into c = room c
 
-slice-aggregate-copy-into : tie.Need-slice-aggregate-copy-into
+slice-aggregate-copy-into : tie.Need-slice_bounds-copy_into-end-2
 slice-aggregate-copy-into c = sym (length-take-le _ _ (room c.before))
 
-copy-into-requires : tie.Need-copy-into-requires
+copy-into-requires : tie.Need-copy_into-requires
 copy-into-requires c κs = length-take-le _ _ (room c.before)
 
-sub-checks : tie.Need-overflow-sub-checks
-sub-checks c = omega (arith, c.before.page.given, room c.before.before.before.before)
+sub-checks : tie.Need-slice_bounds-checks-count
+sub-checks c = omega (arith, c.before.page-1.given, room c.before.before.before.before)
 
-part-checks-start : tie.Need-slice-bounds-checks-start
-part-checks-start c = omega (arith, c.before.page.given, room c.before.before.before.before)
+part-checks-start : tie.Need-slice_bounds-checks-start
+part-checks-start c = omega (arith, c.before.page-1.given, room c.before.before.before.before)
 
-part-checks-end : tie.Need-slice-bounds-checks-end
+part-checks-end : tie.Need-slice_bounds-checks-end
 part-checks-end c = search rules
 
-first-row-requires : tie.Need-first-row-requires
+first-row-requires : tie.Need-first_row-requires
 first-row-requires c κs =
     let copied = c.before.before.before.before in
     let left = copied.before.before in
-    let a = (start left.before).args in
+    let a = left.before.before.before.before.before.before.before.before.args in
     let w = works left in (
       w.1,
       w.3,
-      behind_length (copied.copy-into.new.0 ++ drop (length a.«data».now) a.page.now) (length a.«data».now) a.k
-          (omega (arith, c.before.before.before.page.given, w.3.len, w.4)),
+      behind_length (copied.copy_into.new.dst ++ drop (length a.«data».now) a.page.now) (length a.«data».now) a.k
+          (omega (arith, c.before.before.before.page-1.given, w.3.len, w.4)),
     )
 
-add-branches-requires : tie.Need-add-branches-requires
+add-branches-requires : tie.Need-add_branches-requires
 add-branches-requires c κs =
     let r = c.before.before in
     let w = works r.before.before.before.before.before.before.before in
-    (w.1, w.3, r.first-row.ensures.1)
+    (w.1, w.3, r.first_row.ensures.1)
 
-write-outer-checks-requires : tie.Need-write-outer-checks-requires
+write-outer-checks-requires : tie.Need-write_outer_checks-requires
 write-outer-checks-requires c κs =
     let added = c.before.before.before in
     let first = added.before.before.before in
     let copied = first.before.before.before.before.before in
     let left = copied.before.before in
-    let b = start left.before in
+    let b = left.before.before.before.before.before.before.before.before in
     let u = b.args.«data».now in
     let w = works left in (
       w.0,
       w.1.q_high,
       w.2,
       w.3,
-      page_written (code b) w.1.table u copied.copy-into.new.0 (drop (length u) b.args.page.now) _ _ w.3.len copied.copy-into.ensures first.first-row.ensures.0 added.add-branches.ensures,
+      page_written (code b) w.1.table u copied.copy_into.new.dst (drop (length u) b.args.page.now) _ _ w.3.len copied.copy_into.ensures first.first_row.ensures.0 added.add_branches.ensures,
     )
 
-same_length : tie.Need-same-length
+same_length : tie.Need-shape_of-page
 same_length c = search rules
 
-returns-2 : tie.Need-returns-2
+returns-2 : tie.Need-returns
 unfolding encode_outer_outcome
 returns-2 c =
     let w = c.before.before in
     let left = w.before.before.before.before.before.before.before.before.before.before.before.before.before.before in
-    let b = start left.before in
+    let b = left.before.before.before.before.before.before.before.before in
     let u = b.args.«data».now in (
-      left_as_done _ _ _ _ (sym (done left)) w.write-outer-checks.ensures,
-      λ e. subst (EncodesOuter (code b) b.args.block u) (sym w.write-outer-checks.ensures) (outer_encodes (code b) b.args.block u (length b.args.page.now) (done left)),
+      left_as_done _ _ _ _ (sym (done left)) w.write_outer_checks.ensures,
+      λ e. subst (EncodesOuter (code b) b.args.block u) (sym w.write_outer_checks.ensures) (outer_encodes (code b) b.args.block u (length b.args.page.now) (done left)),
     )
 
-pub encode-outer-spec : {M : Type 1} → statement M
-encode-outer-spec =
+pub encode_outer_spec : {M : Type 1} → statement M
+encode_outer_spec =
     tie.close
     (tie.spec
     data-count-requires

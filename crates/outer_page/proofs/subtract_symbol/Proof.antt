@@ -15,118 +15,114 @@ use Rattle.outer_page.specs.Words.{data_inside, lent_length, lent_below, lent_sy
 use Rattle.outer_page.proofs.subtract_symbol.Statement.{statement}
 use Rattle.outer_page.proofs.subtract_symbol.Tie as tie
 
--- the start, from where the place is found, and the code
-abbrev start : tie.After-place-of → tie.Start
-start c = c.before.before.before.before.before
-
 abbrev code_at : tie.Start → Code
 code_at b = code_by b.args.code b.args.positions.now
 
-data-count-requires : tie.Need-data-count-requires
+data-count-requires : tie.Need-data_count-n-requires
 data-count-requires c κs = omega (arith, c.before.before.requires.0.table.sizes.data-high)
 
-checks-each-requires : tie.Need-checks-each-requires
+checks-each-requires : tie.Need-checks_each-requires
 checks-each-requires c κs = c.before.before.before.requires.0.table.sizes.b_low
 
-place-of-requires : tie.Need-place-of-requires
+place-of-requires : tie.Need-place_of-place-requires
 place-of-requires c κs =
     let b = c.before.before.before.before in
     let z = b.requires.0.table.sizes in
-    (z.k_low, z.k_high, omega (arith, c.checks-each.ensures, z.J-high), omega (arith, b.requires.3, z.data-high))
+    (z.k_low, z.k_high, omega (arith, c.checks_each.ensures, z.J-high), omega (arith, b.requires.3, z.data-high))
 
 -- the number of data symbols, as it is found, and the checks of the page
-abbrev count : tie.After-place-of → ℕ
-count c = c.before.before.data-count.result
+abbrev count : tie.After-place_of-place → ℕ
+count c = c.before.before.data_count-n.result
 
-abbrev lent : tie.After-place-of → List ℕ
-lent c = let page = (start c).args.page.now in take (length page - count c) (drop (count c) page)
+abbrev lent : tie.After-place_of-place → List ℕ
+lent c = let page = c.before.before.before.before.before.args.page.now in take (length page - count c) (drop (count c) page)
 
 -- the place is that of the symbol, and what it is good for
-here : (c : tie.After-place-of) → c.place_of.result ≡ place_at (code_at (start c)) (start c).args.symbol
-here c = let a = (start c).args in c.place_of.ensures ∙ ap (λ (n : ℕ). place_by a.code.k n a.symbol) c.before.checks-each.ensures
+here : (c : tie.After-place_of-place) → c.place_of-place.result ≡ place_at (code_at c.before.before.before.before.before) c.before.before.before.before.before.args.symbol
+here c = let a = c.before.before.before.before.before.args in c.place_of-place.ensures ∙ ap (λ (n : ℕ). place_by a.code.k n a.symbol) c.before.checks_each.ensures
 
-number : (c : tie.After-place-of) → c.place_of.result.symbol ≡ (start c).args.symbol
+number : (c : tie.After-place_of-place) → c.place_of-place.result.symbol ≡ c.before.before.before.before.before.args.symbol
 number c = ap (λ (p : Place). p.symbol) (here c)
 
-place : (c : tie.After-place-of) → Found (code_at (start c)) (lent c) c.place_of.result
+place : (c : tie.After-place_of-place) → Found (code_at c.before.before.before.before.before) (lent c) c.place_of-place.result
 place c =
-    let b = start c in
-    found (record { table = b.pre.0.table; len = lent_length (code_at b) b.pre.0 b.args.page.now b.pre.2 (count c) c.before.before.data-count.ensures })
-    (record { inside = omega (arith, number c, b.pre.3); here = here c ∙ ap (place_at (code_at b)) (sym (number c)) })
+    let b = c.before.before.before.before.before in
+    found (record { table = b.requires.0.table; len = lent_length (code_at b) b.requires.0 b.args.page.now b.requires.2 (count c) c.before.before.data_count-n.ensures })
+    (record { inside = omega (arith, number c, b.requires.3); here = here c ∙ ap (place_at (code_at b)) (sym (number c)) })
 
 -- the data is within the page
-inside : (c : tie.After-place-of) → count c ≤ length (start c).args.page.now
-inside c = let b = start c in data_inside (code_at b) b.pre.0 b.args.page.now b.pre.2 (count c) c.before.before.data-count.ensures
+inside : (c : tie.After-place_of-place) → count c ≤ length c.before.before.before.before.before.args.page.now
+inside c = let b = c.before.before.before.before.before in data_inside (code_at b) b.requires.0 b.args.page.now b.requires.2 (count c) c.before.before.data_count-n.ensures
 
-sub-index : tie.Need-overflow-sub-index
+sub-index : tie.Need-overflow_sub-index
 sub-index c = omega (arith, (place c.before).start_low, number c.before)
 
-slice-read-sub-mod : tie.Need-slice-read-sub-mod
-slice-read-sub-mod c = let p = c.before.before in omega (arith, inside p, p.before.before.data-count.ensures, (start p).requires.3)
+slice-read-sub-mod : tie.Need-bounds-page-symbol
+slice-read-sub-mod c = let p = c.before.before in omega (arith, inside p, p.before.before.data_count-n.ensures, p.before.before.before.before.before.requires.3)
 
-sub-mod-requires : tie.Need-sub-mod-requires
+sub-mod-requires : tie.Need-sub_mod-x-requires
 sub-mod-requires c κs =
     let p = c.before.before in
-    let b = start p in
-    (b.pre.1, omega (arith, lent_symbol (code_at b) b.pre.0 b.args.page.now b.pre.2 (count p) p.before.before.data-count.ensures b.args.symbol b.pre.3, b.pre.2.symbols.low b.args.symbol), b.pre.4)
+    let b = p.before.before.before.before.before in
+    (b.requires.1, omega (arith, lent_symbol (code_at b) b.requires.0 b.args.page.now b.requires.2 (count p) p.before.before.data_count-n.ensures b.args.symbol b.requires.3, b.requires.2.symbols.low b.args.symbol), b.requires.4)
 
-mul-subtract-at : tie.Need-overflow-mul-subtract-at
+mul-subtract-at : tie.Need-offset_bounds-positions-first
 mul-subtract-at c = let g = place c.before.before.before in omega (arith, g.few, g.first_last)
 
-sub-subtract-at : tie.Need-overflow-sub-subtract-at
+sub-subtract-at : tie.Need-slice_bounds-subtract_at-count
 sub-subtract-at c = (place c.before.before.before).first_last
 
-part-subtract-at-start : tie.Need-slice-bounds-subtract-at-start
+part-subtract-at-start : tie.Need-slice_bounds-subtract_at-start
 part-subtract-at-start c = (place c.before.before.before).first_last
 
-part-subtract-at-end : tie.Need-slice-bounds-subtract-at-end
+part-subtract-at-end : tie.Need-slice_bounds-subtract_at-end
 part-subtract-at-end c = (place c.before.before.before).last_in
 
-sub-subtract-at-2 : tie.Need-overflow-sub-subtract-at-2
+sub-subtract-at-2 : tie.Need-slice_bounds-subtract_at-count-2
 sub-subtract-at-2 c = inside c.before.before.before.before
 
-part-subtract-at-start-2 : tie.Need-slice-bounds-subtract-at-start-2
+part-subtract-at-start-2 : tie.Need-slice_bounds-subtract_at-start-2
 part-subtract-at-start-2 c = inside c.before.before.before.before
 
-part-subtract-at-end-2 : tie.Need-slice-bounds-subtract-at-end-2
+part-subtract-at-end-2 : tie.Need-slice_bounds-subtract_at-end-2
 part-subtract-at-end-2 c = search rules
 
-subtract-at-requires : tie.Need-subtract-at-requires
+subtract-at-requires : tie.Need-subtract_at-requires
 subtract-at-requires c κs =
     let p = c.before.before.before.before.before in
-    let b = start p in
+    let b = p.before.before.before.before.before in
     let g = place p in (
       g.checks_lent,
       omega (arith, g.index_low, number p),
-      b.pre.1,
-      b.pre.4,
-      lent_below (code_at b) b.pre.0 b.args.page.now b.pre.2 (count p) p.before.before.data-count.ensures,
+      b.requires.1,
+      b.requires.4,
+      lent_below (code_at b) b.requires.0 b.args.page.now b.requires.2 (count p) p.before.before.data_count-n.ensures,
     )
 
-slice-write-page : tie.Need-slice-write-page
+slice-write-page : tie.Need-bounds-page-symbol-2
 slice-write-page c =
     let p = c.before.before.before.before.before.before.before.before in
-    omega (arith, inside p, p.before.before.data-count.ensures, (start p).requires.3, c.before.page.given)
+    omega (arith, inside p, p.before.before.data_count-n.ensures, p.before.before.before.before.before.requires.3, c.before.page-1.given)
 
-same_length : tie.Need-same-length
+same_length : tie.Need-shape_of-page
 same_length c = search rules
 
 returns : tie.Need-returns
 returns c =
     let s = c.before.before in
     let p = s.before.before.before.before.before.before in
-    let b = start p in
+    let b = p.before.before.before.before.before in
     let a = b.args in
     let g = place p in
-    let index : a.symbol - p.place_of.result.start ≡ p.place_of.result.symbol - p.place_of.result.start = ap (λ (n : ℕ). n - p.place_of.result.start) (sym (number p)) in
-    page_less (code_at b) b.pre.0 a.page.now b.pre.2 (count p) p.before.before.data-count.ensures a.symbol a.h b.pre.3 b.pre.4 _
-    (s.subtract-at.ensures
+    let index : a.symbol - p.place_of-place.result.start ≡ p.place_of-place.result.symbol - p.place_of-place.result.start = ap (λ (n : ℕ). n - p.place_of-place.result.start) (sym (number p)) in
+    page_less (code_at b) b.requires.0 a.page.now b.requires.2 (count p) p.before.before.data_count-n.ensures a.symbol a.h b.requires.3 b.requires.4 _
+    (s.subtract_at.ensures
     ∙ ap (λ (is : List ℕ). subtract_at a.code.q a.h is (lent p))
-    (ap (checks_by a.code.k (run_at p.place_of.result a.positions.now)) index ∙ g.checks_are ∙ ap (checks_of (code_at b)) (number p)))
-    _ s.before.before.before.sub-mod.ensures
+    (ap (checks_by a.code.k (run_at p.place_of-place.result a.positions.now)) index ∙ g.checks_are ∙ ap (checks_of (code_at b)) (number p)))
+    _ s.before.before.before.sub_mod-x.ensures
 
-pub subtract-symbol-spec : {M : Type 1} → statement M
-subtract-symbol-spec =
+pub subtract_symbol_spec : {M : Type 1} → statement M
+subtract_symbol_spec =
     tie.close
     (tie.spec
     data-count-requires

@@ -109,8 +109,8 @@ last_of c = (begin c).args.at + (begin c).args.block - 1
 tested : (c : tie.After-reliability-at2) → lt_z (rel c c.before.before.weakest-of.result) (rel c (last_of c)) ≡ lt_z (to_z w32 (of_z w32 c.before.reliability-at.result)) (to_z w32 (of_z w32 c.reliability-at2.result))
 unfolding estimates
 tested c =
-    let x = read_back _ c.before.reliability-at.type-inv ∙ c.before.reliability-at.ensures in
-    let y = read_back _ c.reliability-at2.type-inv ∙ c.reliability-at2.ensures in
+    let x = read_back _ c.before.reliability-at.type_inv ∙ c.before.reliability-at.ensures in
+    let y = read_back _ c.reliability-at2.type_inv ∙ c.reliability-at2.ensures in
     λ o. lt_z (sym x o) (sym y o)
 
 told : (c : tie.After-reliability-at2)

@@ -35,7 +35,7 @@ loop-holds c =
     let b = c.before.before.before.before in
     let a = b.args in
     least_first (reliability_of (code_by a.code a.positions.now) a.e (state_by a.d.now a.s.now a.d.now)) a.first a.last _ b.requires.2
-    (read_back _ c.reliability-at.type-inv ∙ c.reliability-at.ensures)
+    (read_back _ c.reliability-at.type_inv ∙ c.reliability-at.ensures)
 
 reliability-at-requires-2 : tie.Need-reliability-at-requires-2 invariant-loop decreases-loop
 reliability-at-requires-2 c κs =
@@ -56,7 +56,7 @@ loop-again c =
     let a = b.args in
     let r = reliability_of (code_by a.code a.positions.now) a.e (state_by a.d.now a.s.now a.d.now) in
     let l = i.before.loop in
-    let v = read_back _ c.before.reliability-at2.type-inv ∙ c.before.reliability-at2.ensures in
+    let v = read_back _ c.before.reliability-at2.type_inv ∙ c.before.reliability-at2.ensures in
     ⊎_elim
     (λ w. subst (λ (n : ℕ). LeastTo r a.first a.last (l.j + 1) n (to_z w32 c.if1.least)) (sym w.1)
     (subst (λ (m : ℕ). LeastTo r a.first a.last (l.j + 1) l.j (to_z w32 m)) (sym w.2)

@@ -42,7 +42,9 @@ symbol-of-requires c κs =
     (p.k_high, p.inside, p.ascending.below _ (omega arith))
 
 slice-read-zeros : tie.Need-bounds-zeros-x invariant-loop decreases-loop
-slice-read-zeros c = (turn c).inside
+slice-read-zeros c =
+    let h = c.before.before.before.before in
+    (recount_turn (start h).requires h.loop-i.invariant (omega arith) c.before.symbol_of-x.ensures).inside
 
 add-zeros : tie.Need-overflow_add-zeros invariant-loop decreases-loop
 add-zeros c = let t = turn c in omega arith

@@ -82,7 +82,7 @@ write-check-requires : tie.Need-write_check-requires invariant-loop decreases-lo
 write-check-requires c κs =
     let l = c.before.before.before.before.before.before.before in
     let b = start l in
-    (at_table_of b.requires.0 l.loop-i.s l.loop-i.invariant.0.sized, (place b).each, omega (arith, (at l).len, slice-read-sub-mod c.before.before.before), l.loop-i.invariant.1)
+    (at_table_of b.requires.0 l.loop-i.s l.loop-i.invariant.0.sized, (place b).each, omega (arith, (at l).len, check_inside (at l) _ _ c.before.before.before.before.check_of-c.ensures), l.loop-i.invariant.1)
 
 add-i : tie.Need-overflow_add-i invariant-loop decreases-loop
 add-i c = omega arith

@@ -71,7 +71,7 @@ returns c =
     let g = place p in
     let own = get_or a.d.now a.symbol 0 in
     let index : a.symbol - p.place_of.result.start ≡ p.place_of.result.symbol - p.place_of.result.start = ap (λ (n : ℕ). n - p.place_of.result.start) (sym (number p)) in
-    read_back _ c.reliability-in.type-inv ∙ c.reliability-in.ensures
+    read_back _ c.reliability-in.type_inv ∙ c.reliability-in.ensures
     ∙ ap (λ (is : List ℕ). reliability a.e (own ∷ symbols_at a.s.now is))
     (ap (checks_by a.code.k (run_at p.place_of.result a.positions.now)) index ∙ g.checks_are ∙ ap (checks_of (code_at b)) (number p))
 

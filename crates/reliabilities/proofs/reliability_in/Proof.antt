@@ -49,7 +49,7 @@ reliability-of-requires : tie.Need-reliability-of-requires
 reliability-of-requires c κs = (part c).high
 
 returns : tie.Need-returns
-returns c = read_back _ c.reliability-of.type-inv ∙ c.reliability-of.ensures ∙ ap (λ (l : List ℕ). reliability c.before.before.before.before.before.before.before.args.e l) (part c.before).same
+returns c = read_back _ c.reliability-of.type_inv ∙ c.reliability-of.ensures ∙ ap (λ (l : List ℕ). reliability c.before.before.before.before.before.before.before.args.e l) (part c.before).same
 
 pub reliability-in-spec : {M : Type 1} → statement M
 reliability-in-spec =

@@ -33,7 +33,7 @@ unfolding reliability
 returns c =
     let b = c.before.before in
     let a = b.before.before.args in
-    read_back _ c.margin-of.type-inv ∙ c.margin-of.ensures ∙ ap (λ (n : ℕ). pos n -ℤ pos c.before.count-equal2.result) b.count-equal.ensures
+    read_back _ c.margin-of.type_inv ∙ c.margin-of.ensures ∙ ap (λ (n : ℕ). pos n -ℤ pos c.before.count-equal2.result) b.count-equal.ensures
     ∙ ap (λ (n : ℕ). pos (count 0 a.es.now) -ℤ pos n) c.before.count-equal2.ensures
 
 pub reliability-of-spec : {M : Type 1} → statement M

@@ -4,35 +4,35 @@ use mathlib.Core.Path.{refl}
 use Rattle.visits.proofs.subtract_symbol.Statement.{statement}
 use Rattle.visits.proofs.subtract_symbol.Tie as tie
 
-slice-read-sub-mod : tie.Need-slice-read-sub-mod
+slice-read-sub-mod : tie.Need-bounds-res-j
 slice-read-sub-mod c = search rules
 
-sub-mod-requires : tie.Need-sub-mod-requires
+sub-mod-requires : tie.Need-sub_mod-requires
 sub-mod-requires c κs = search rules
 
-slice-write-result : tie.Need-slice-write-result
+slice-write-result : tie.Need-bounds-res-j-2
 slice-write-result c = search rules
 
-slice-read-sub-mod-2 : tie.Need-slice-read-sub-mod-2
+slice-read-sub-mod-2 : tie.Need-bounds-difference-j
 slice-read-sub-mod-2 c = search rules
 
-sub-mod-requires-2 : tie.Need-sub-mod-requires-2
+sub-mod-requires-2 : tie.Need-sub_mod-requires-2
 sub-mod-requires-2 c κs = search rules
 
-slice-write-difference : tie.Need-slice-write-difference
+slice-write-difference : tie.Need-bounds-difference-j-2
 slice-write-difference c = search rules
 
-same_length : tie.Need-same-length
+same_length : tie.Need-shape_of-res
 same_length c = search rules
 
-same-length-2 : tie.Need-same-length-2
+same-length-2 : tie.Need-shape_of-difference
 same-length-2 c = search rules
 
 returns : tie.Need-returns
-returns c = rw (c.before.before.sub-mod.ensures, c.sub-mod2.ensures) (refl, refl)
+returns c = rw (c.before.before.sub_mod.ensures, c.sub_mod-2.ensures) (refl, refl)
 
-pub subtract-symbol-spec : {M : Type 1} → statement M
-subtract-symbol-spec =
+pub subtract_symbol_spec : {M : Type 1} → statement M
+subtract_symbol_spec =
     tie.close
     (tie.spec
     slice-read-sub-mod

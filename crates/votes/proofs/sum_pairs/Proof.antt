@@ -20,7 +20,7 @@ each l = (start l).args.each
 abbrev lists : tie.At-loop-i invariant-loop decreases-loop → List ℕ
 lists l = (start l).args.lists.now
 
-div-n : tie.Need-nonzero-div-n invariant-loop decreases-loop
+div-n : tie.Need-nonzero_div-n invariant-loop decreases-loop
 div-n c = search rules
 
 loop-holds : tie.Need-loop-i-init invariant-loop decreases-loop

@@ -10,79 +10,79 @@ use Rattle.wide_vote.specs.Lows.{lows, lows_length, lows_at, lead_low}
 use Rattle.wide_vote.proofs.may_lead.Statement.{statement}
 use Rattle.wide_vote.proofs.may_lead.Tie as tie
 
-abbrev invariant-loop : tie.invariant-loop
+abbrev invariant-loop : tie.invariant-loop-i
 invariant-loop es bound counters₀ i₀ counters i = (i ≤ length es) × Counted 256 bound (lows es) i counters
 
-abbrev decreases-loop : tie.decreases-loop
+abbrev decreases-loop : tie.decreases-loop-i
 decreases-loop es bound counters₀ i₀ counters i = length es - i
 
-abbrev start : tie.At-loop invariant-loop decreases-loop → tie.Start invariant-loop decreases-loop
+abbrev start : tie.At-loop-i invariant-loop decreases-loop → tie.Start invariant-loop decreases-loop
 start c = c.before.before
 
-abbrev head : tie.After-low-byte invariant-loop decreases-loop → tie.At-loop invariant-loop decreases-loop
+abbrev head : tie.After-low_byte-e invariant-loop decreases-loop → tie.At-loop-i invariant-loop decreases-loop
 head c = c.before.before.before
 
 -- the low byte that is counted
-low : (c : tie.After-low-byte invariant-loop decreases-loop) → c.low_byte.result ≡ get_or (lows (start (head c)).args.es.now) (head c).loop.i 0
-low c = c.low_byte.ensures ∙ sym (lows_at (start (head c)).args.es.now (head c).loop.i)
+low : (c : tie.After-low_byte-e invariant-loop decreases-loop) → c.low_byte-e.result ≡ get_or (lows (start (head c)).args.es.now) (head c).loop-i.i 0
+low c = c.low_byte-e.ensures ∙ sym (lows_at (start (head c)).args.es.now (head c).loop-i.i)
 
-loop-holds : tie.Need-loop-init invariant-loop decreases-loop
+loop-holds : tie.Need-loop-i-init invariant-loop decreases-loop
 loop-holds c = let a = c.before.args in (omega arith, counted_none 256 a.bound (lows a.es.now))
 
-mul-low-byte : tie.Need-overflow-mul-low-byte invariant-loop decreases-loop
+mul-low-byte : tie.Need-offset_bounds-es-i invariant-loop decreases-loop
 mul-low-byte c = omega arith
 
-shared-slice-read-low-byte : tie.Need-shared-slice-read-low-byte invariant-loop decreases-loop
+shared-slice-read-low-byte : tie.Need-bounds-es-i invariant-loop decreases-loop
 shared-slice-read-low-byte c = omega arith
 
-low-byte-requires : tie.Need-low-byte-requires invariant-loop decreases-loop
+low-byte-requires : tie.Need-low_byte-e-requires invariant-loop decreases-loop
 low-byte-requires c κs = search rules
 
-cast-e : tie.Need-overflow-cast-e invariant-loop decreases-loop
-cast-e c = omega (arith, c.low_byte.ensures)
+cast-e : tie.Need-overflow_cast-e invariant-loop decreases-loop
+cast-e c = omega (arith, c.low_byte-e.ensures)
 
-array-read-n : tie.Need-array-read-n invariant-loop decreases-loop
-array-read-n c = omega (arith, c.low_byte.ensures)
+array-read-n : tie.Need-bounds-counters-e invariant-loop decreases-loop
+array-read-n c = omega (arith, c.low_byte-e.ensures)
 
-add-n : tie.Need-overflow-add-n invariant-loop decreases-loop
+add-n : tie.Need-overflow_add-n invariant-loop decreases-loop
 add-n c =
     let l = head c in
     let b = start l in
-    omega (arith, b.pre, counted_few 256 b.args.bound (lows b.args.es.now) l.loop.i l.loop.counters l.loop.inv.1 c.low_byte.result)
+    omega (arith, b.requires, counted_few 256 b.args.bound (lows b.args.es.now) l.loop-i.i l.loop-i.counters l.loop-i.invariant.1 c.low_byte-e.result)
 
-returns : tie.Need-returns invariant-loop decreases-loop
+returns : tie.Need-returns-then-bound-n invariant-loop decreases-loop
 returns c = λ e. let z : ◌≡◌ {A = ℕ} 0 1 = cc in omega arith
 
-array-write-counters : tie.Need-array-write-counters invariant-loop decreases-loop
-array-write-counters c = omega (arith, c.before.low_byte.ensures)
+array-write-counters : tie.Need-bounds-counters-e-in-loop-i invariant-loop decreases-loop
+array-write-counters c = omega (arith, c.before.low_byte-e.ensures)
 
-add-i : tie.Need-overflow-add-i invariant-loop decreases-loop
+add-i : tie.Need-overflow_add-i invariant-loop decreases-loop
 add-i c = omega arith
 
-loop-less : tie.Need-loop-smaller invariant-loop decreases-loop
+loop-less : tie.Need-loop-i-smaller invariant-loop decreases-loop
 loop-less c = omega arith
 
-loop-again : tie.Need-loop-preserved invariant-loop decreases-loop
+loop-again : tie.Need-loop-i-preserved invariant-loop decreases-loop
 loop-again c =
     let k = c.before in
     let l = head k in
     let a = (start l).args in
-    let cs : List ℕ = l.loop.counters in
+    let cs : List ℕ = l.loop-i.counters in
     let es : List ℕ = lows a.es.now in (
       omega arith,
-      subst (λ (e : ℕ). Counted 256 a.bound es (l.loop.i + 1) (set cs e (get_or cs e 0 + 1))) (sym (low k))
-          (counted_more 256 a.bound es l.loop.i cs l.loop.inv.1 (omega (arith, lows_length a.es.now)) (omega (arith, lows_at a.es.now l.loop.i))
-          (omega (arith, c.if1.false, ap (λ (e : ℕ). get_or cs e 0) (low k)))),
+      subst (λ (e : ℕ). Counted 256 a.bound es (l.loop-i.i + 1) (set cs e (get_or cs e 0 + 1))) (sym (low k))
+          (counted_more 256 a.bound es l.loop-i.i cs l.loop-i.invariant.1 (omega (arith, lows_length a.es.now)) (omega (arith, lows_at a.es.now l.loop-i.i))
+          (omega (arith, c.if-bound-n.false, ap (λ (e : ℕ). get_or cs e 0) (low k)))),
     )
 
-returns-2 : tie.Need-returns-2 invariant-loop decreases-loop
+returns-2 : tie.Need-returns invariant-loop decreases-loop
 returns-2 c = λ e.
     let l = c.before in
     let a = (start l).args in
-    lead_low a.es.now a.bound (counted_within 256 a.bound (lows a.es.now) l.loop.i l.loop.counters l.loop.invariant.1 (omega (arith, lows_length a.es.now)))
+    lead_low a.es.now a.bound (counted_within 256 a.bound (lows a.es.now) l.loop-i.i l.loop-i.counters l.loop-i.invariant.1 (omega (arith, lows_length a.es.now)))
 
-pub may-lead-spec : {M : Type 1} → statement M
-may-lead-spec =
+pub may_lead_spec : {M : Type 1} → statement M
+may_lead_spec =
     tie.close
     (tie.spec
     invariant-loop

@@ -5,14 +5,14 @@ use Rattle.theory.proofs.Margins.{zeros_others}
 use Rattle.wide_vote.proofs.most_other.Statement.{statement}
 use Rattle.wide_vote.proofs.most_other.Tie as tie
 
-next-count-requires : tie.Need-next-count-requires
+next-count-requires : tie.Need-next_count-requires
 next-count-requires c κs = search rules
 
-cast-result : tie.Need-overflow-cast-result
-cast-result c = let b = c.before.before in omega (arith, c.next-count.ensures, zeros_others b.args.es.now)
+cast-result : tie.Need-overflow_cast-result
+cast-result c = let b = c.before.before in omega (arith, c.next_count.ensures, zeros_others b.args.es.now)
 
 returns : tie.Need-returns
 returns c = search rules
 
-pub most-other-spec : {M : Type 1} → statement M
-most-other-spec = tie.close (tie.spec next-count-requires cast-result returns)
+pub most_other_spec : {M : Type 1} → statement M
+most_other_spec = tie.close (tie.spec next-count-requires cast-result returns)

@@ -5,19 +5,19 @@ use Rattle.model.specs.Vote.{lead_count, next_count}
 use Rattle.wide_vote.proofs.vote_over.Statement.{statement}
 use Rattle.wide_vote.proofs.vote_over.Tie as tie
 
-leader-of-requires : tie.Need-leader-of-requires
+leader-of-requires : tie.Need-leader_of-best-requires
 leader-of-requires c κs = search rules
 
-next-count-requires : tie.Need-next-count-requires
+next-count-requires : tie.Need-next_count-next-requires
 next-count-requires c κs = search rules
 
-count-equal-requires : tie.Need-count-equal-requires
+count-equal-requires : tie.Need-count_equal-zeros-requires
 count-equal-requires c κs = search rules
 
 returns : tie.Need-returns
 unfolding lead_count next_count
-returns c = rw (c.count-equal.ensures, c.before.next-count.ensures, c.before.before.leader-of.ensures) refl
+returns c = rw (c.count_equal-zeros.ensures, c.before.next_count-next.ensures, c.before.before.leader_of-best.ensures) refl
 
-pub vote-over-spec : {M : Type 1} → statement M
-vote-over-spec =
+pub vote_over_spec : {M : Type 1} → statement M
+vote_over_spec =
     tie.close (tie.spec leader-of-requires next-count-requires count-equal-requires returns)
