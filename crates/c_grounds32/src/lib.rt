@@ -1,5 +1,6 @@
 // Why a data symbol of four bytes is left or would be changed, from S and D in bytes: only the estimates are read, so that no buffer is as long as the code.
 #![tactic(auto)]
+
 ghost use Rattle.std.specs.Prelude.{◌≡◌, ◌+◌, ◌*◌, ◌<◌, length, get_or};
 ghost use Rattle.model.specs.Code.{wide32, data_count, check_count};
 ghost use Rattle.model.specs.Bytes.{symbol_size, symbols_of};

@@ -1,5 +1,6 @@
 // The C form of encode in blocks, which reads the positions of the table.
 #![tactic(auto)]
+
 ghost use Rattle.std.specs.Prelude.{◌≡◌};
 ghost use Rattle.model.specs.Code.{code_of};
 ghost use Rattle.model.specs.Calls.{encode_outer_outcome};

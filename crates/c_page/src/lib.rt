@@ -1,6 +1,7 @@
 // The C forms of the calls that need no buffer but for the positions of the table: the table check, encode, syndrome and open, in the
 // profile of bit pages or of bytes, as `bits` says.
 #![tactic(auto)]
+
 ghost use Rattle.std.specs.Prelude.{◌≡◌};
 ghost use Rattle.model.specs.Code.{code_in};
 ghost use Rattle.model.specs.Decoder.{state_by};

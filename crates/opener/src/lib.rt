@@ -1,5 +1,6 @@
 // The call open: what decode starts from, for a caller who runs the passes one by one.
 #![tactic(auto)]
+
 ghost use Rattle.std.specs.Prelude.{◌≡◌};
 ghost use Rattle.model.specs.Code.{code_in, code_of};
 ghost use Rattle.model.specs.Decoder.{state_by};

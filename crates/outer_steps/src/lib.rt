@@ -1,5 +1,6 @@
 // The outer steps: in each block whose sum is not 0 the least reliable symbol is changed, where it is less reliable than the last.
 #![tactic(auto)]
+
 ghost use Rattle.std.specs.Prelude.{◌≡◌, List, ℕ, ◌+◌, ◌-◌, ◌/◌, ◌<◌, ◌≤◌, length};
 ghost use Rattle.model.specs.Code.{data_count};
 ghost use Rattle.model.specs.Decoder.{state_by};

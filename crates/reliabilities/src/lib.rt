@@ -1,5 +1,6 @@
 // The reliability of a data symbol against a block's sum e, as i32: the zeros among its estimates less those that equal e.
 #![tactic(auto)]
+
 ghost use Rattle.std.specs.Prelude.{◌≡◌, ◌<◌, ◌≤◌, length, get_or};
 ghost use Rattle.model.specs.Code.{data_count};
 ghost use Rattle.model.specs.Outer.{reliability};

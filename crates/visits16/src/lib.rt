@@ -1,6 +1,7 @@
 // A visit to a data symbol of two bytes: the vote over its estimates, and the change that the vote decides. The zeros at the checks of every
 // data symbol are kept, as for bytes: by marks, a byte for each symbol of the syndrome, 0 where it is 0 and else 1.
 #![tactic(auto)]
+
 ghost use Rattle.std.specs.Prelude.{◌≡◌, ◌+◌, ◌<◌, ◌≤◌, length, get_or, set};
 ghost use Rattle.model.specs.Code.{checks_each, checks_of};
 ghost use Rattle.model.specs.Decoder.{state_by};

@@ -14,24 +14,24 @@ use Rattle.theory.specs.WideBytes.{symbol-at}
 use Rattle.c_grounds16.proofs.gather.Statement.{statement}
 use Rattle.c_grounds16.proofs.gather.Tie as tie
 
-abbrev invariant-loop : tie.invariant-loop
+abbrev invariant-loop : tie.invariant-loop-i
 invariant-loop code positions j own s es₀ i₀ es i =
     (i ≤ length positions) × (length es ≡ length positions + 1) × (take (i + 1) es ≡ own ∷ symbols_at (symbols_of (symbol_size wide16) s) (checks_by code.k (take i positions) j))
 
-abbrev decreases-loop : tie.decreases-loop
+abbrev decreases-loop : tie.decreases-loop-i
 decreases-loop code positions j own s es₀ i₀ es i = length positions - i
 
 widened-requires : tie.Need-widened-requires invariant-loop decreases-loop
 widened-requires c κs = search rules
 
 -- the start, seen from the loop
-abbrev start : tie.At-loop invariant-loop decreases-loop → tie.Start invariant-loop decreases-loop
+abbrev start : tie.At-loop-i invariant-loop decreases-loop → tie.Start invariant-loop decreases-loop
 start c = c.before.before.before.before.before
 
-slice-write-es : tie.Need-slice-write-es invariant-loop decreases-loop
+slice-write-es : tie.Need-bounds-es-0 invariant-loop decreases-loop
 slice-write-es c = omega arith
 
-loop-holds : tie.Need-loop-init invariant-loop decreases-loop
+loop-holds : tie.Need-loop-i-init invariant-loop decreases-loop
 loop-holds c =
     let b = c.before.before.before.before in
     let a = b.args in (
@@ -41,71 +41,71 @@ loop-holds c =
           ∙ gather_none (symbols_of (symbol_size wide16) a.s.now) a.code.k a.positions.now a.j a.own a.es.now (omega arith),
     )
 
-mul-check-of : tie.Need-overflow-mul-check-of invariant-loop decreases-loop
+mul-check-of : tie.Need-offset_bounds-positions-i invariant-loop decreases-loop
 mul-check-of c = search rules
 
-shared-slice-read-check-of : tie.Need-shared-slice-read-check-of invariant-loop decreases-loop
+shared-slice-read-check-of : tie.Need-bounds-positions-i invariant-loop decreases-loop
 shared-slice-read-check-of c = omega arith
 
-check-of-requires : tie.Need-check-of-requires invariant-loop decreases-loop
+check-of-requires : tie.Need-check_of-c-requires invariant-loop decreases-loop
 check-of-requires c κs =
     let l = c.before.before in
     let p = (start l).requires in
     by_position p.0 _ _ p.2 (omega arith)
 
-add-i : tie.Need-overflow-add-i invariant-loop decreases-loop
+add-i : tie.Need-overflow_add-i invariant-loop decreases-loop
 add-i c = omega arith
 
 -- the check stands within S
-inside : (k : tie.After-check-of invariant-loop decreases-loop) → k.check-of.result < (start k.before.before.before).args.code.k
-inside k = let p = (start k.before.before.before).pre in omega (arith, check_inside p.0 _ _ k.check-of.ensures, p.0.len)
+inside : (k : tie.After-check_of-c invariant-loop decreases-loop) → k.check_of-c.result < (start k.before.before.before).args.code.k
+inside k = let p = (start k.before.before.before).requires in omega (arith, check_inside p.0 _ _ k.check_of-c.ensures, p.0.len)
 
-mul-get : tie.Need-overflow-mul-get invariant-loop decreases-loop
-mul-get c = omega (arith, inside c, (start c.before.before.before).pre.0.k_high)
+mul-get : tie.Need-overflow_mul-c invariant-loop decreases-loop
+mul-get c = omega (arith, inside c, (start c.before.before.before).requires.0.k_high)
 
 get-requires : tie.Need-get-requires invariant-loop decreases-loop
-get-requires c κs = omega (arith, inside c, (start c.before.before.before).pre.1)
+get-requires c κs = omega (arith, inside c, (start c.before.before.before).requires.1)
 
-widened-requires-2 : tie.Need-widened-requires-2 invariant-loop decreases-loop
+widened-requires-2 : tie.Need-widened-requires-in-loop-i invariant-loop decreases-loop
 widened-requires-2 c κs = search rules
 
-mul-es : tie.Need-overflow-mul-es invariant-loop decreases-loop
+mul-es : tie.Need-offset_bounds-es-i invariant-loop decreases-loop
 mul-es c = omega arith
 
-slice-write-es-2 : tie.Need-slice-write-es-2 invariant-loop decreases-loop
+slice-write-es-2 : tie.Need-bounds-es-i invariant-loop decreases-loop
 slice-write-es-2 c = omega arith
 
-loop-less : tie.Need-loop-smaller invariant-loop decreases-loop
+loop-less : tie.Need-loop-i-smaller invariant-loop decreases-loop
 loop-less c = omega arith
 
-loop-again : tie.Need-loop-preserved invariant-loop decreases-loop
+loop-again : tie.Need-loop-i-preserved invariant-loop decreases-loop
 loop-again c =
     let k = c.before.before in
     let b = k.before.before.before in
     let a = (start b).args in
     let s : List ℕ = symbols_of (symbol_size wide16) a.s.now in
-    let es : List ℕ = b.loop.es in (
+    let es : List ℕ = b.loop-i.es in (
       omega arith,
-      length-set es (b.loop.i + 1) _ ∙ b.loop.invariant.1,
-      ap (λ (x : ℕ). take (b.loop.i + 1 + 1) (set es (b.loop.i + 1) x))
-          (c.widened2.ensures ∙ c.before.get.ensures
-          ∙ sym (symbol-at (symbol_size wide16) (omega arith) a.code.k a.s.now (start b).requires.1 k.check-of.result (inside k)))
-          ∙ gather_turn s a.code.k a.positions.now a.j a.own b.loop.i k.check-of.result es (omega arith) (omega arith)
-          k.check-of.ensures b.loop.invariant.2,
+      length-set es (b.loop-i.i + 1) _ ∙ b.loop-i.invariant.1,
+      ap (λ (x : ℕ). take (b.loop-i.i + 1 + 1) (set es (b.loop-i.i + 1) x))
+          (c.widened-in-loop-i.ensures ∙ c.before.get.ensures
+          ∙ sym (symbol-at (symbol_size wide16) (omega arith) a.code.k a.s.now (start b).requires.1 k.check_of-c.result (inside k)))
+          ∙ gather_turn s a.code.k a.positions.now a.j a.own b.loop-i.i k.check_of-c.result es (omega arith) (omega arith)
+          k.check_of-c.ensures b.loop-i.invariant.2,
     )
 
-same_length : tie.Need-same-length invariant-loop decreases-loop
+same_length : tie.Need-shape_of-es invariant-loop decreases-loop
 same_length c = omega arith
 
 returns : tie.Need-returns invariant-loop decreases-loop
 returns c =
     let b = c.before in
     let a = (start b).args in
-    sym (take_all (b.loop.i + 1) b.loop.es (omega arith)) ∙ b.loop.invariant.2
-    ∙ ap (λ (l : List ℕ). a.own ∷ symbols_at (symbols_of (symbol_size wide16) a.s.now) (checks_by a.code.k l a.j)) (take_all b.loop.i a.positions.now (omega arith))
+    sym (take_all (b.loop-i.i + 1) b.loop-i.es (omega arith)) ∙ b.loop-i.invariant.2
+    ∙ ap (λ (l : List ℕ). a.own ∷ symbols_at (symbols_of (symbol_size wide16) a.s.now) (checks_by a.code.k l a.j)) (take_all b.loop-i.i a.positions.now (omega arith))
 
-pub gather-spec : {M : Type 1} → statement M
-gather-spec =
+pub gather_spec : {M : Type 1} → statement M
+gather_spec =
     tie.close
     (tie.spec
     invariant-loop

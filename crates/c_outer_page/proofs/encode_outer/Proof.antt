@@ -30,56 +30,56 @@ whole s xs e r x h =
       λ z. encodes_outer_read byte_pages a.q a.k a.b xs ps e a.block a.«data».now x (h.1 z),
     )
 
-slice-aggregate-read-positions : tie.Need-slice-aggregate-read-positions
+slice-aggregate-read-positions : tie.Need-slice_bounds-read_positions-end
 slice-aggregate-read-positions c = search rules
 
-read-positions-requires : tie.Need-read-positions-requires
+read-positions-requires : tie.Need-read_positions-n-requires
 read-positions-requires c κs = search rules
 
-array-share-prefix-few : tie.Need-array-share-prefix-few
+array-share-prefix-few : tie.Need-slice_bounds-few-end
 array-share-prefix-few c = search rules
 
-slice-aggregate-encode-outer : tie.Need-slice-aggregate-encode-outer
+slice-aggregate-encode-outer : tie.Need-slice_bounds-encode_outer-end
 slice-aggregate-encode-outer c = sym (length-take-le _ _ (omega arith))
 
-encode-outer-requires : tie.Need-encode-outer-requires
+encode-outer-requires : tie.Need-encode_outer-requires
 encode-outer-requires c κs = search rules
 
-same_length : tie.Need-same-length
+same_length : tie.Need-shape_of-page-then-table-le64
 same_length c = search rules
 
-returns : tie.Need-returns
+returns : tie.Need-returns-then-table-le64
 returns c =
     let p = c.before.before in
     let r = p.before.before.before.before in
-    whole r.before.before.before.before.before.before _ r.read-positions.ensures.1 _ _ p.encode-outer.ensures
+    whole r.before.before.before.before.before.before _ r.read_positions-n.ensures.1 _ _ p.encode_outer.ensures
 
-slice-aggregate-read-positions-2 : tie.Need-slice-aggregate-read-positions-2
+slice-aggregate-read-positions-2 : tie.Need-slice_bounds-read_positions-end-2
 slice-aggregate-read-positions-2 c = search rules
 
-read-positions-requires-2 : tie.Need-read-positions-requires-2
+read-positions-requires-2 : tie.Need-read_positions-n-requires-2
 read-positions-requires-2 c κs = search rules
 
-array-share-prefix-positions : tie.Need-array-share-prefix-positions
+array-share-prefix-positions : tie.Need-slice_bounds-positions-end
 array-share-prefix-positions c = search rules
 
-slice-aggregate-encode-outer-2 : tie.Need-slice-aggregate-encode-outer-2
+slice-aggregate-encode-outer-2 : tie.Need-slice_bounds-encode_outer-end-2
 slice-aggregate-encode-outer-2 c = sym (length-take-le _ _ (omega arith))
 
-encode-outer-requires-2 : tie.Need-encode-outer-requires-2
+encode-outer-requires-2 : tie.Need-encode_outer-requires-2
 encode-outer-requires-2 c κs = search rules
 
-same-length-2 : tie.Need-same-length-2
+same-length-2 : tie.Need-shape_of-page
 same-length-2 c = search rules
 
-returns-2 : tie.Need-returns-2
+returns-2 : tie.Need-returns
 returns-2 c =
     let p = c.before.before in
     let r = p.before.before.before.before in
-    whole r.before.before.before.before.before.before _ r.read-positions2.ensures.1 _ _ p.encode-outer2.ensures
+    whole r.before.before.before.before.before.before _ r.read_positions-n-2.ensures.1 _ _ p.encode_outer-2.ensures
 
-pub encode-outer-spec : {M : Type 1} → statement M
-encode-outer-spec =
+pub encode_outer_spec : {M : Type 1} → statement M
+encode_outer_spec =
     tie.close
     (tie.spec
     slice-aggregate-read-positions

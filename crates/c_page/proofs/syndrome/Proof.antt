@@ -22,56 +22,56 @@ Holds s ps o = o ≡ syndrome_outcome (code_in (profile_of s.args.bits) s.args.q
 whole : (s : tie.Start) (xs : List ℕ) → xs ≡ kept (positions_of s.args.table.now) → (o : Outcome (List ℕ)) → Holds s xs o → Holds s (positions_of s.args.table.now) o
 whole s xs e o h = let a = s.args in h ∙ syndrome_read (profile_of a.bits) a.q a.k a.b xs (positions_of a.table.now) e a.page.now a.syndrome.now
 
-slice-aggregate-read-positions : tie.Need-slice-aggregate-read-positions
+slice-aggregate-read-positions : tie.Need-slice_bounds-read_positions-end
 slice-aggregate-read-positions c = search rules
 
-read-positions-requires : tie.Need-read-positions-requires
+read-positions-requires : tie.Need-read_positions-n-requires
 read-positions-requires c κs = search rules
 
-array-share-prefix-few : tie.Need-array-share-prefix-few
+array-share-prefix-few : tie.Need-slice_bounds-few-end
 array-share-prefix-few c = search rules
 
-slice-aggregate-syndrome-in : tie.Need-slice-aggregate-syndrome-in
+slice-aggregate-syndrome-in : tie.Need-slice_bounds-syndrome_in-end
 slice-aggregate-syndrome-in c = sym (length-take-le _ _ (omega arith))
 
-syndrome-in-requires : tie.Need-syndrome-in-requires
+syndrome-in-requires : tie.Need-syndrome_in-requires
 syndrome-in-requires c κs = search rules
 
-same_length : tie.Need-same-length
+same_length : tie.Need-shape_of-syndrome-then-table-le64
 same_length c = search rules
 
-returns : tie.Need-returns
+returns : tie.Need-returns-then-table-le64
 returns c =
     let p = c.before.before in
     let r = p.before.before.before.before in
-    whole r.before.before.before.before.before.before _ r.read-positions.ensures.1 _ p.syndrome-in.ensures
+    whole r.before.before.before.before.before.before _ r.read_positions-n.ensures.1 _ p.syndrome_in.ensures
 
-slice-aggregate-read-positions-2 : tie.Need-slice-aggregate-read-positions-2
+slice-aggregate-read-positions-2 : tie.Need-slice_bounds-read_positions-end-2
 slice-aggregate-read-positions-2 c = search rules
 
-read-positions-requires-2 : tie.Need-read-positions-requires-2
+read-positions-requires-2 : tie.Need-read_positions-n-requires-2
 read-positions-requires-2 c κs = search rules
 
-array-share-prefix-positions : tie.Need-array-share-prefix-positions
+array-share-prefix-positions : tie.Need-slice_bounds-positions-end
 array-share-prefix-positions c = search rules
 
-slice-aggregate-syndrome-in-2 : tie.Need-slice-aggregate-syndrome-in-2
+slice-aggregate-syndrome-in-2 : tie.Need-slice_bounds-syndrome_in-end-2
 slice-aggregate-syndrome-in-2 c = sym (length-take-le _ _ (omega arith))
 
-syndrome-in-requires-2 : tie.Need-syndrome-in-requires-2
+syndrome-in-requires-2 : tie.Need-syndrome_in-requires-2
 syndrome-in-requires-2 c κs = search rules
 
-same-length-2 : tie.Need-same-length-2
+same-length-2 : tie.Need-shape_of-syndrome
 same-length-2 c = search rules
 
-returns-2 : tie.Need-returns-2
+returns-2 : tie.Need-returns
 returns-2 c =
     let p = c.before.before in
     let r = p.before.before.before.before in
-    whole r.before.before.before.before.before.before _ r.read-positions2.ensures.1 _ p.syndrome-in2.ensures
+    whole r.before.before.before.before.before.before _ r.read_positions-n-2.ensures.1 _ p.syndrome_in-2.ensures
 
-pub syndrome-spec : {M : Type 1} → statement M
-syndrome-spec =
+pub syndrome_spec : {M : Type 1} → statement M
+syndrome_spec =
     tie.close
     (tie.spec
     slice-aggregate-read-positions

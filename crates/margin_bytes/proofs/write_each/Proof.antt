@@ -130,7 +130,7 @@ along-requires c κs =
     omega (arith, (placed t).inside, (start (branches t.before.before)).requires.0.table.sizes.data-high)
 
 loop2-less : tie.Need-loop-place-2-smaller invariant-loop2 decreases-loop2 invariant-loop decreases-loop
-loop2-less c = along_less _ _ (turn c.before.before.before.before.before.before).loop-place-2-test.taken c.along-place.ensures
+loop2-less c = along_less _ _ (turn c.before.before.before.before.before.before).loop-place-2-test.true c.along-place.ensures
 
 loop2-again : tie.Need-loop-place-2-preserved invariant-loop2 decreases-loop2 invariant-loop decreases-loop
 loop2-again c =
@@ -142,7 +142,7 @@ loop2-again c =
     let b = start (branches i) in
     let w = i.loop-place-2.invariant.0 in
     let e = c.along-place.ensures in (
-      in_along b.requires.0.table w t.loop-place-2-test.taken _ e,
+      in_along b.requires.0.table w t.loop-place-2-test.true _ e,
       rw (ap (λ (x : Place). x.symbol) e) (front_turn _ _ _ _ i.loop-place-2.invariant.1 (omega (arith, (placed t).inside, b.requires.2)) _ _
           (n.ensures ∙ ap twos (read_back _ m.type_inv ∙ placed_margin (place t) _ (same_run w _) _ _ m.ensures)) put.put_word.ensures),
     )

@@ -23,79 +23,79 @@ stateAt b = state_by b.args.res.now b.args.syndrome.now b.args.difference.now
 abbrev block_at : tie.Start → ℕ
 block_at b = b.args.at / b.args.block
 
-abbrev start : tie.After-step-of → tie.Start
-start c = c.before.before.before.before.before.before.before.before
+abbrev start : tie.After-step_of-step → tie.Start
+start c = c.before.before.before.before.before
 
 -- where a step is found: what it is, and that its symbol and its sum are in range
-step : (c : tie.After-step-of) → c.step_of_lem.result.sum ≢ 0 → Made (code_at (start c)) (start c).args.block (block_at (start c)) (stateAt (start c)) c.step_of_lem.result c.step_of_lem.ensures
-step c n = made _ _ _ _ _ c.step_of_lem.ensures n
+step : (c : tie.After-step_of-step) → c.step_of-step.result.sum ≢ 0 → Made (code_at (start c)) (start c).args.block (block_at (start c)) (stateAt (start c)) c.step_of-step.result c.step_of-step.ensures
+step c n = made _ _ _ _ _ c.step_of-step.ensures n
 
-inside : (c : tie.After-step-of) → c.step_of_lem.result.sum ≢ 0 → c.step_of_lem.result.symbol < data_count (code_at (start c))
+inside : (c : tie.After-step_of-step) → c.step_of-step.result.sum ≢ 0 → c.step_of-step.result.symbol < data_count (code_at (start c))
 inside c n =
     let b = start c in
     let a = b.args in
-    let f = b.pre.1 in
+    let f = b.requires.1 in
     omega (
       arith,
       (step c n).symbol_is,
-      weakest_in (code_at b) a.block f.fits (block_at b) (at_block (code_at b) a.block f.fits a.at f.whole f.inside) (block_sum a.code.q a.block a.result.now (block_at b)) (stateAt b),
+      weakest_in (code_at b) a.block f.fits (block_at b) (at_block (code_at b) a.block f.fits a.at f.whole f.inside) (block_sum a.code.q a.block a.res.now (block_at b)) (stateAt b),
     )
 
-low : (c : tie.After-step-of) → c.step_of_lem.result.sum ≢ 0 → c.step_of_lem.result.sum < (start c).args.code.q
-low c n = let b = start c in omega (arith, (step c n).sum_is, sum_in b.args.code.q b.args.block (block_at b) b.args.res.now (omega (arith, b.pre.0.usable.q_low)))
+low : (c : tie.After-step_of-step) → c.step_of-step.result.sum ≢ 0 → c.step_of-step.result.sum < (start c).args.code.q
+low c n = let b = start c in omega (arith, (step c n).sum_is, sum_in b.args.code.q b.args.block (block_at b) b.args.res.now (omega (arith, b.requires.0.usable.q_low)))
 
-step-of-requires : tie.Need-step-of-requires
+step-of-requires : tie.Need-step_of-step-requires
 step-of-requires c κs = search rules
 
-same_length : tie.Need-same-length
+same_length : tie.Need-shape_of-res-then-step-eq0
 same_length c = search rules
 
-same-length-2 : tie.Need-same-length-2
+same-length-2 : tie.Need-shape_of-syndrome-then-step-eq0
 same-length-2 c = search rules
 
-same-length-3 : tie.Need-same-length-3
+same-length-3 : tie.Need-shape_of-difference-then-step-eq0
 same-length-3 c = search rules
 
-returns : tie.Need-returns
-returns c = let s = c.before.before in not_made _ _ _ _ _ s.step_of_lem.ensures c.if1.true
+returns : tie.Need-returns-then-step-eq0
+returns c = let s = c.before.before in not_made _ _ _ _ _ s.step_of-step.ensures c.if-step-eq0.true
 
-checks-each-requires : tie.Need-checks-each-requires
+checks-each-requires : tie.Need-checks_each-each-requires
 checks-each-requires c κs = search rules
 
-place-of-requires : tie.Need-place-of-requires
+place-of-requires : tie.Need-place_of-place-requires
 place-of-requires c κs =
     let s = c.before.before.before in
     let z = (start s).requires.0.usable.table.sizes in
-    (z.k_low, z.k_high, omega (arith, c.checks-each.ensures, z.J-high), omega (arith, inside s c.before.if1.false, z.data-high))
+    (z.k_low, z.k_high, omega (arith, c.checks_each-each.ensures, z.J-high), omega (arith, inside s c.before.if-step-eq0.false, z.data-high))
 
-change-at-requires : tie.Need-change-at-requires
+change-at-requires : tie.Need-change_at-requires
 change-at-requires c κs =
     let p = c.before.before.before in
     let s = p.before.before.before.before in
-    let n = p.before.before.if1.false in
-    ((start s).requires.0, placed_by _ _ _ _ p.before.checks-each.ensures (inside s n) p.place_of.ensures, low s n)
+    let n = p.before.before.if-step-eq0.false in
+    ((start s).requires.0, placed_by _ _ _ _ p.before.checks_each-each.ensures (inside s n) p.place_of-place.ensures, low s n)
 
-same-length-4 : tie.Need-same-length-4
+same-length-4 : tie.Need-shape_of-res
 same-length-4 c = search rules
 
-same-length-5 : tie.Need-same-length-5
+same-length-5 : tie.Need-shape_of-syndrome
 same-length-5 c = search rules
 
-same-length-6 : tie.Need-same-length-6
+same-length-6 : tie.Need-shape_of-difference
 same-length-6 c = search rules
 
-returns-2 : tie.Need-returns-2
+returns-2 : tie.Need-returns
 returns-2 c =
     let k = c.before.before.before.before.before.before in
     let p = k.before.before.before.before in
     let s = p.before.before.before.before in
     let b = start s in
-    let x = s.step_of_lem.result in
-    stepped_made (code_at b) _ _ (stateAt b) x s.step_of_lem.ensures (step s p.before.before.if1.false) _
-    (k.change-at.ensures ∙ ap (λ (q : Place). change b.args.code.q (checks_of (code_at b) q.symbol) q.symbol x.sum (stateAt b)) p.place_of.ensures)
+    let x = s.step_of-step.result in
+    stepped_made (code_at b) _ _ (stateAt b) x s.step_of-step.ensures (step s p.before.before.if-step-eq0.false) _
+    (k.change_at.ensures ∙ ap (λ (q : Place). change b.args.code.q (checks_of (code_at b) q.symbol) q.symbol x.sum (stateAt b)) p.place_of-place.ensures)
 
-pub outer-step-spec : {M : Type 1} → statement M
-outer-step-spec =
+pub outer_step_spec : {M : Type 1} → statement M
+outer_step_spec =
     tie.close
     (tie.spec
     step-of-requires

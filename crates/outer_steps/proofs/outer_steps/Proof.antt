@@ -18,17 +18,17 @@ use Rattle.outer_steps.proofs.outer_steps.Tie as tie
 abbrev stepped : List ℕ → List ℕ → List ℕ → ℕ → Stepped
 stepped r s d n = record { state = state_by r s d; steps = n }
 
-abbrev invariant-loop : tie.invariant-loop
+abbrev invariant-loop : tie.invariant-loop-at
 invariant-loop code positions block result₀ syndrome₀ difference₀ n bound steps₀ at₀ result syndrome difference steps at =
     (stepped result syndrome difference steps ≡ steps_to (code_by code positions) block (at / block) (state_by result₀ syndrome₀ difference₀))
     × (at ≡ at / block * block)
     × (at ≤ data_count (code_by code positions))
 
-abbrev decreases-loop : tie.decreases-loop
+abbrev decreases-loop : tie.decreases-loop-at
 decreases-loop code positions block result₀ syndrome₀ difference₀ n bound steps₀ at₀ result syndrome difference steps at = n - at
 
-abbrev start : tie.At-loop invariant-loop decreases-loop → tie.Start invariant-loop decreases-loop
-start l = l.before.before.before.before.before.before.before.before.before
+abbrev start : tie.At-loop-at invariant-loop decreases-loop → tie.Start invariant-loop decreases-loop
+start l = l.before.before.before.before.before.before.before.before
 
 abbrev code_at : tie.Start invariant-loop decreases-loop → Code
 code_at b = code_by b.args.code b.args.positions.now
@@ -37,28 +37,28 @@ abbrev stateAt : tie.Start invariant-loop decreases-loop → State
 stateAt b = state_by b.args.res.now b.args.syndrome.now b.args.difference.now
 
 -- the state that a turn finds is ready
-ready : (l : tie.At-loop invariant-loop decreases-loop) → Ready (code_at (start l)) (state_by l.loop.result l.loop.syndrome l.loop.difference)
+ready : (l : tie.At-loop-at invariant-loop decreases-loop) → Ready (code_at (start l)) (state_by l.loop-at.res l.loop-at.syndrome l.loop-at.difference)
 unfolding steps_to
-ready l = subst (Ready (code_at (start l))) (ap (λ (x : Stepped). x.state) (sym l.loop.invariant.0)) (steps_ready _ _ _ _ (start l).requires.0)
+ready l = subst (Ready (code_at (start l))) (ap (λ (x : Stepped). x.state) (sym l.loop-at.invariant.0)) (steps_ready _ _ _ _ (start l).requires.0)
 
 -- the block that is next
-next : (i : tie.In-loop invariant-loop decreases-loop) → BlockAt (code_at (start i.before)) (start i.before).args.block i.before.before.before.before.bound_of.result i.before.loop.at
+next : (i : tie.In-loop-at invariant-loop decreases-loop) → BlockAt (code_at (start i.before)) (start i.before).args.block i.before.before.before.bound_of-bound.result i.before.loop-at.at
 next i =
     let l = i.before in
     let b = start l in
-    let d = l.before.before.before.bound_of.ensures in
-    record { fits = b.pre.1; whole = l.loop.invariant.1; inside = omega (arith, i.loop-test.true, l.before.before.before.before.data-count.ensures); doubled = d.0; high = d.1 }
+    let d = l.before.before.bound_of-bound.ensures in
+    record { fits = b.requires.1; whole = l.loop-at.invariant.1; inside = omega (arith, i.loop-at-test.true, l.before.before.before.data_count-n.ensures); doubled = d.0; high = d.1 }
 
-ends : (i : tie.In-loop invariant-loop decreases-loop) → i.before.loop.at + (start i.before).args.block ≤ data_count (code_at (start i.before))
+ends : (i : tie.In-loop-at invariant-loop decreases-loop) → i.before.loop-at.at + (start i.before).args.block ≤ data_count (code_at (start i.before))
 ends i =
     let b = start i.before in
     let n = next i in
-    omega (arith, n.whole, block-end (code_at b) _ b.pre.1 _ (at_block (code_at b) _ b.pre.1 i.before.loop.at n.whole n.inside))
+    omega (arith, n.whole, block-end (code_at b) _ b.requires.1 _ (at_block (code_at b) _ b.requires.1 i.before.loop-at.at n.whole n.inside))
 
-data-count-requires : tie.Need-data-count-requires invariant-loop decreases-loop
+data-count-requires : tie.Need-data_count-n-requires invariant-loop decreases-loop
 data-count-requires c κs = omega (arith, c.before.before.before.before.requires.0.usable.table.sizes.data-high)
 
-bound-of-requires : tie.Need-bound-of-requires invariant-loop decreases-loop
+bound-of-requires : tie.Need-bound_of-bound-requires invariant-loop decreases-loop
 bound-of-requires c κs =
     let b = c.before.before.before.before.before in
     let r = b.requires.0 in
@@ -93,114 +93,114 @@ zero-whole b =
     let L = b.args.block in
     (let m : 0 ≡ 0 * L = omega (arith, zero-mul L) in m) ∙ ap (λ (n : ℕ). n * L) (sym (at_first (code_at b) L b.requires.1))
 
-first-broken-requires : tie.Need-first-broken-requires invariant-loop decreases-loop
+first-broken-requires : tie.Need-first_broken-at-requires invariant-loop decreases-loop
 first-broken-requires c κs =
-    let b = c.before.before.before.before.before.before.before in
-    let d = c.before.bound_of.ensures in
+    let b = c.before.before.before.before.before.before in
+    let d = c.bound_of-bound.ensures in
     asked b _ 0 (stateAt b) b.requires.0 d.0 d.1 (zero-whole b) (omega arith)
 
-loop-holds : tie.Need-loop-init invariant-loop decreases-loop
+loop-holds : tie.Need-loop-at-init invariant-loop decreases-loop
 loop-holds c =
-    let b = c.before.before.before.before.before.before.before.before in
+    let b = c.before.before.before.before.before.before.before in
     let L = b.args.block in
     walked (code_at b) L b.requires.1 (stateAt b) (stepped b.args.res.now b.args.syndrome.now b.args.difference.now 0) 0 _ b.requires.0.sized.len_result (zero-whole b)
-    (steps_none (code_at b) L (stateAt b) ∙ ap (λ (n : ℕ). steps_to (code_at b) L n (stateAt b)) (sym (at_first (code_at b) L b.requires.1))) c.first-broken.ensures
+    (steps_none (code_at b) L (stateAt b) ∙ ap (λ (n : ℕ). steps_to (code_at b) L n (stateAt b)) (sym (at_first (code_at b) L b.requires.1))) c.first_broken-at.ensures
 
-outer-step-requires : tie.Need-outer-step-requires invariant-loop decreases-loop
+outer-step-requires : tie.Need-outer_step-steps-requires invariant-loop decreases-loop
 outer-step-requires c κs = let i = c.before.before.before in (ready i.before, next i)
 
 -- the turn that a block is taken in, and what is left after it
-abbrev turn : tie.After-slice-known6 invariant-loop decreases-loop → tie.In-loop invariant-loop decreases-loop
+abbrev turn : tie.After-slice_known-in-loop-at-3-1 invariant-loop decreases-loop → tie.In-loop-at invariant-loop decreases-loop
 turn c = c.before.before.before.before.before.before.before.before.before.before
 
 -- the number of the next block
-number : (c : tie.After-slice-known6 invariant-loop decreases-loop) → ((turn c).before.loop.at + (start (turn c).before).args.block) / (start (turn c).before).args.block ≡ (turn c).before.loop.at / (start (turn c).before).args.block + 1
-number c = let l = (turn c).before in let b = start l in at_next (code_at b) b.args.block b.pre.1 l.loop.at l.loop.inv.1
+number : (c : tie.After-slice_known-in-loop-at-3-1 invariant-loop decreases-loop) → ((turn c).before.loop-at.at + (start (turn c).before).args.block) / (start (turn c).before).args.block ≡ (turn c).before.loop-at.at / (start (turn c).before).args.block + 1
+number c = let l = (turn c).before in let b = start l in at_next (code_at b) b.args.block b.requires.1 l.loop-at.at l.loop-at.invariant.1
 
-again : (c : tie.After-slice-known6 invariant-loop decreases-loop)
+again : (c : tie.After-slice_known-in-loop-at-3-1 invariant-loop decreases-loop)
     → let x = c.before.before.before.before.before.before in
     let l = (turn c).before in
     let b = start l in
-    stepped x.outer-step.new.1.1.1.1.1.0 x.outer-step.new.1.1.1.1.1.1.0 x.outer-step.new.1.1.1.1.1.1.1.0 (l.loop.steps + x.outer-step.result)
-    ≡ steps_to (code_at b) b.args.block ((l.loop.at + b.args.block) / b.args.block) (stateAt b)
+    stepped x.outer_step-steps.new.res x.outer_step-steps.new.syndrome x.outer_step-steps.new.difference (l.loop-at.steps + x.outer_step-steps.result)
+    ≡ steps_to (code_at b) b.args.block ((l.loop-at.at + b.args.block) / b.args.block) (stateAt b)
 again c =
     let l = (turn c).before in
     let b = start l in
-    steps_more _ _ _ _ (stepped l.loop.result l.loop.syndrome l.loop.difference l.loop.steps) _ l.loop.inv.0 c.before.before.before.before.before.before.outer-step.ensures
+    steps_more _ _ _ _ (stepped l.loop-at.res l.loop-at.syndrome l.loop-at.difference l.loop-at.steps) _ l.loop-at.invariant.0 c.before.before.before.before.before.before.outer_step-steps.ensures
     ∙ ap (λ (n : ℕ). steps_to (code_at b) b.args.block n (stateAt b)) (sym (number c))
 
-add-steps : tie.Need-overflow-add-steps invariant-loop decreases-loop
+add-steps : tie.Need-overflow_add-steps invariant-loop decreases-loop
 add-steps c =
     let l = (turn c).before in
     let b = start l in
-    let few = at_block (code_at b) b.args.block b.pre.1 l.loop.at l.loop.inv.1 (next (turn c)).inside in
-    record { fits = omega (arith, steps_fit _ _ _ _ _ (again c), number c, few, blocks_few (code_at b) _ b.pre.1, b.pre.0.usable.table.sizes.data-high) }
+    let few = at_block (code_at b) b.args.block b.requires.1 l.loop-at.at l.loop-at.invariant.1 (next (turn c)).inside in
+    record { fits = omega (arith, steps_fit _ _ _ _ _ (again c), number c, few, blocks_few (code_at b) _ b.requires.1, b.requires.0.usable.table.sizes.data-high) }
 
 -- where the search for the next block starts
-later : (c : tie.After-slice-known6 invariant-loop decreases-loop) → (turn c).before.loop.at + (start (turn c).before).args.block ≡ ((turn c).before.loop.at + (start (turn c).before).args.block) / (start (turn c).before).args.block * (start (turn c).before).args.block
+later : (c : tie.After-slice_known-in-loop-at-3-1 invariant-loop decreases-loop) → (turn c).before.loop-at.at + (start (turn c).before).args.block ≡ ((turn c).before.loop-at.at + (start (turn c).before).args.block) / (start (turn c).before).args.block * (start (turn c).before).args.block
 later c =
     let l = (turn c).before in
     let L = (start l).args.block in
-    let m : (l.loop.at / L + 1) * L ≡ l.loop.at / L * L + L = omega arith in
-    (let e : l.loop.at + L ≡ (l.loop.at / L + 1) * L = omega (arith, m, l.loop.inv.1) in e) ∙ ap (λ (n : ℕ). n * L) (sym (number c))
+    let m : (l.loop-at.at / L + 1) * L ≡ l.loop-at.at / L * L + L = omega arith in
+    (let e : l.loop-at.at + L ≡ (l.loop-at.at / L + 1) * L = omega (arith, m, l.loop-at.invariant.1) in e) ∙ ap (λ (n : ℕ). n * L) (sym (number c))
 
 -- what the step leaves is ready
-left : (c : tie.After-slice-known6 invariant-loop decreases-loop)
+left : (c : tie.After-slice_known-in-loop-at-3-1 invariant-loop decreases-loop)
     → let x = c.before.before.before.before.before.before in
-    Ready (code_at (start (turn c).before)) (state_by x.outer-step.new.1.1.1.1.1.0 x.outer-step.new.1.1.1.1.1.1.0 x.outer-step.new.1.1.1.1.1.1.1.0)
+    Ready (code_at (start (turn c).before)) (state_by x.outer_step-steps.new.res x.outer_step-steps.new.syndrome x.outer_step-steps.new.difference)
 unfolding steps_to
-left c = let b = start (turn c).before in subst (λ (y : Stepped). Ready (code_at b) y.state) (sym (again c)) (steps_ready _ _ _ _ b.pre.0)
+left c = let b = start (turn c).before in subst (λ (y : Stepped). Ready (code_at b) y.state) (sym (again c)) (steps_ready _ _ _ _ b.requires.0)
 
-add-first-broken : tie.Need-overflow-add-first-broken invariant-loop decreases-loop
-add-first-broken c = let t = turn c.before in record { fits = omega (arith, ends t, (start t.before).pre.0.usable.table.sizes.data-high) }
+add-first-broken : tie.Need-overflow_add-at invariant-loop decreases-loop
+add-first-broken c = let t = turn c in record { fits = omega (arith, ends t, (start t.before).requires.0.usable.table.sizes.data-high) }
 
-first-broken-requires-2 : tie.Need-first-broken-requires-2 invariant-loop decreases-loop
+first-broken-requires-2 : tie.Need-first_broken-at-requires-in-loop-at invariant-loop decreases-loop
 first-broken-requires-2 c κs =
-    let k = c.before in
+    let k = c in
     let l = (turn k).before in
-    let d = l.before.before.before.bound_of.ensures in
+    let d = l.before.before.bound_of-bound.ensures in
     asked (start l) _ _ _ (left k) d.0 d.1 (later k) (ends (turn k))
 
 -- what the search finds
-found : (c : tie.After-first-broken2 invariant-loop decreases-loop)
-    → let k = c.before.before in
+found : (c : tie.After-first_broken-at-in-loop-at invariant-loop decreases-loop)
+    → let k = c.before in
     let x = k.before.before.before.before.before.before in
     let l = (turn k).before in
     let b = start l in
     let L = b.args.block in
-    let r = c.first-broken2.result in
-    (stepped x.outer-step.new.1.1.1.1.1.0 x.outer-step.new.1.1.1.1.1.1.0 x.outer-step.new.1.1.1.1.1.1.1.0 (l.loop.steps + x.outer-step.result) ≡ steps_to (code_at b) L (r / L) (stateAt b))
+    let r = c.first_broken-at-in-loop-at.result in
+    (stepped x.outer_step-steps.new.res x.outer_step-steps.new.syndrome x.outer_step-steps.new.difference (l.loop-at.steps + x.outer_step-steps.result) ≡ steps_to (code_at b) L (r / L) (stateAt b))
     × (r ≡ r / L * L)
     × (r ≤ data_count (code_at b))
 found c =
-    let k = c.before.before in
+    let k = c.before in
     let b = start (turn k).before in
-    walked (code_at b) b.args.block b.pre.1 (stateAt b) _ _ _ (left k).sized.len_result (later k) (again k) c.first-broken2.ensures
+    walked (code_at b) b.args.block b.requires.1 (stateAt b) _ _ _ (left k).sized.len_result (later k) (again k) c.first_broken-at-in-loop-at.ensures
 
-loop-less : tie.Need-loop-smaller invariant-loop decreases-loop
-loop-less c = let i = turn c.before.before in omega (arith, i.loop-test.taken, (start i.before).pre.1.low, c.first-broken2.ensures.passed)
+loop-less : tie.Need-loop-at-smaller invariant-loop decreases-loop
+loop-less c = let i = turn c.before in omega (arith, i.loop-at-test.true, (start i.before).requires.1.low, c.first_broken-at-in-loop-at.ensures.passed)
 
-loop-again : tie.Need-loop-preserved invariant-loop decreases-loop
+loop-again : tie.Need-loop-at-preserved invariant-loop decreases-loop
 loop-again c = found c
 
-same_length : tie.Need-same-length invariant-loop decreases-loop
-same_length c = (ready c.before).sized.len_result ∙ sym (start c.before).pre.0.sized.len_result
+same_length : tie.Need-shape_of-res invariant-loop decreases-loop
+same_length c = (ready c.before).sized.len_result ∙ sym (start c.before).requires.0.sized.len_result
 
-same-length-2 : tie.Need-same-length-2 invariant-loop decreases-loop
-same-length-2 c = (ready c.before).sized.len_syndrome ∙ sym (start c.before).pre.0.sized.len_syndrome
+same-length-2 : tie.Need-shape_of-syndrome invariant-loop decreases-loop
+same-length-2 c = (ready c.before).sized.len_syndrome ∙ sym (start c.before).requires.0.sized.len_syndrome
 
-same-length-3 : tie.Need-same-length-3 invariant-loop decreases-loop
-same-length-3 c = (ready c.before).sized.len_difference ∙ sym (start c.before).pre.0.sized.len_difference
+same-length-3 : tie.Need-shape_of-difference invariant-loop decreases-loop
+same-length-3 c = (ready c.before).sized.len_difference ∙ sym (start c.before).requires.0.sized.len_difference
 
 returns : tie.Need-returns invariant-loop decreases-loop
 returns c =
     let l = c.before in
     let b = start l in
-    l.loop.invariant.0 ∙ ap (λ (n : ℕ). steps_to (code_at b) b.args.block n (stateAt b))
-    (at_end (code_at b) b.args.block b.pre.1 l.loop.at (omega (arith, l.loop.invariant.2, c.loop-test.false, l.before.before.before.before.data-count.ensures)))
+    l.loop-at.invariant.0 ∙ ap (λ (n : ℕ). steps_to (code_at b) b.args.block n (stateAt b))
+    (at_end (code_at b) b.args.block b.requires.1 l.loop-at.at (omega (arith, l.loop-at.invariant.2, c.loop-at-test.false, l.before.before.before.data_count-n.ensures)))
 
-pub outer-steps-spec : {M : Type 1} → statement M
-outer-steps-spec =
+pub outer_steps_spec : {M : Type 1} → statement M
+outer_steps_spec =
     tie.close
     (tie.spec
     invariant-loop

@@ -1,6 +1,5 @@
 -- `run_counted`: in a pass, and in each branch of it, the state is that after the visits to the symbols before its place; between passes those left give what the whole run gives, with at most 4,096 changes a pass.
 use mathlib.Core.Path.{◌≡◌, refl, sym, ◌∙◌, ap, subst}
-use mathlib.Core.Logic.{⊎_elim}
 use mathlib.Core.List.{List, []}
 use Prim.Native.Nat.{ℕ, ◌≤◌, ◌<◌, ◌+◌, ◌-◌, ◌*◌}
 use native.Mathlib.Omega.{arith}
@@ -16,6 +15,7 @@ use Rattle.visits.specs.Settled.{settled_left}
 use Rattle.passes.specs.Runs.{visits, visits_suc, visits_from, from_none, from_suc, from_skip, visits-from, passes_from, run_of, Kept, kept_by, passes_nil, pass_idle, pass_changed}
 use Rattle.passes.proofs.run_counted.Statement.{statement}
 use Rattle.passes.proofs.run_counted.Tie as tie
+use Rattle.passes.proofs.run_counted.Lts.{then-n-p, else-n-p+else-loop-place-test+then-tally-before+then-n-p-2}
 
 abbrev invariant-loop3 : tie.invariant-loop-at
 invariant-loop3 bits code positions thresholds result₀ syndrome₀ difference₀ zeros₀ counters₀ n symbols each tally₀ p count before threshold place at₀ result syndrome difference zeros counters tally at =
@@ -194,7 +194,7 @@ few-changes t =
     let i = looked (found t) in
     let l = outer (branches i) in
     let k = kept_in i in
-    omega (arith, (placed t).inside, (found t).open_from-at.ensures.first.low, k.few, l.loop-p.invariant.3.few, k.ready.usable.table.sizes.data-high, (start l).requires.1, (start l).requires.2, (branches i).before.before.before.if-n-p.left)
+    omega (arith, (placed t).inside, (found t).open_from-at.ensures.first.low, k.few, l.loop-p.invariant.3.few, k.ready.usable.table.sizes.data-high, (start l).requires.1, (start l).requires.2, (branches i).before.before.before.if-n-p.false)
 
 visit-requires : tie.Need-visit-tally-requires invariant-loop3 decreases-loop3 invariant-loop2 decreases-loop2 invariant-loop decreases-loop
 visit-requires c κs =
@@ -220,7 +220,7 @@ along-requires c κs =
 loop3-less : tie.Need-loop-at-smaller invariant-loop3 decreases-loop3 invariant-loop2 decreases-loop2 invariant-loop decreases-loop
 loop3-less c =
     let t = turn (visited c.before) in
-    omega (arith, ap (λ (p : Place). p.symbol) c.along-at.ensures, (found t).open_from-at.ensures.first.low, t.if-place-at.left)
+    omega (arith, ap (λ (p : Place). p.symbol) c.along-at.ensures, (found t).open_from-at.ensures.first.low, t.if-place-at.false)
 
 loop3-again : tie.Need-loop-at-preserved invariant-loop3 decreases-loop3 invariant-loop2 decreases-loop2 invariant-loop decreases-loop
 loop3-again c =
@@ -348,25 +348,25 @@ left f r y d e k g = record {
 
 done : (c : tie.Joined-n-p invariant-loop3 decreases-loop3 invariant-loop2 decreases-loop2 invariant-loop decreases-loop)
     → Done (code_at c.before) (start c.before).args.thresholds.now (start c.before).args.zeros.now c.if-n-p.zeros (start c.before).args.counters.now c.if-n-p.counters (at-start c.before)
-    (progress c.if-n-p.result c.if-n-p.syndrome c.if-n-p.difference c.if-n-p.tally) c.if-n-p.passes
+    (progress c.if-n-p.res c.if-n-p.syndrome c.if-n-p.difference c.if-n-p.tally) c.if-n-p.passes
 done c =
     let b = c.before in
     let o = b.loop-p in
     let ths : List ℕ = (start b).args.thresholds.now in
     let p = (start b).requires in
-    ⊎_elim
-    (λ w. rw (w.1, w.2, w.3, w.4, w.5, w.6, w.9)
-    (left (omega arith) p.0 o.invariant.3.ready p.3 o.invariant.2 o.invariant.5
-    (ap (λ (l : List ℕ). passes_from (code_at b) o.count l (between b)) (sym (drop_of_length-le ths w.0.true)) ∙ o.invariant.4)))
-    (λ w. rw (w.10, w.11, w.12, w.13, w.14, w.15, w.18)
-    (let i = w.3 in
-    let x = progress i.result i.syndrome-1 i.difference-1 i.tally in
-    let h : i.place.symbol ≡ data_count (code_at b) = branch_over (start b).requires.0.usable.table i.invariant.0 (omega (arith, b.before.before.data_count-symbols.ensures, w.5.left)) in
-    let over : length ths ≤ w.8.result = omega (arith, w.9.true) in
-    left (omega arith) p.0 (kept_by _ _ _ _ _ o.invariant.3.ready i.invariant.1).ready p.3 i.invariant.2 (i.invariant.3 ∙ o.invariant.5)
-    (ap (λ (l : List ℕ). passes_from (code_at b) (o.count + 1) l x) (sym (drop_of_length-le ths over) ∙ w.8.ensures.2)
-    ∙ sym (pass_idle (code_at b) o.count o.p i.place.symbol ths (between b) x (omega arith) h i.invariant.1 (omega (arith, w.7.true))) ∙ o.invariant.4)))
-    c.if-n-p.branch
+    elim c.if-n-p.branch [
+      | then-n-p w ↦ rw (w.res-is, w.syndrome-is, w.difference-is, w.zeros-is, w.counters-is, w.tally-is, w.passes-is)
+          (left (omega arith) p.0 o.invariant.3.ready p.3 o.invariant.2 o.invariant.5
+          (ap (λ (l : List ℕ). passes_from (code_at b) o.count l (between b)) (sym (drop_of_length-le ths w.if-n-p.true)) ∙ o.invariant.4))
+      | else-n-p+else-loop-place-test+then-tally-before+then-n-p-2 w ↦ rw (w.res-is, w.syndrome-is, w.difference-is, w.zeros-is, w.counters-is, w.tally-is, w.passes-is)
+          (let i = w.loop-place in
+          let x = progress i.res i.syndrome i.difference i.tally in
+          let h : i.place.symbol ≡ data_count (code_at b) = branch_over (start b).requires.0.usable.table i.invariant.0 (omega (arith, b.before.before.data_count-symbols.ensures, w.loop-place-test.false)) in
+          let over : length ths ≤ w.next_smaller-p.result = omega (arith, w.if-n-p-2.true) in
+          left (omega arith) p.0 (kept_by _ _ _ _ _ o.invariant.3.ready i.invariant.1).ready p.3 i.invariant.2 (i.invariant.3 ∙ o.invariant.5)
+          (ap (λ (l : List ℕ). passes_from (code_at b) (o.count + 1) l x) (sym (drop_of_length-le ths over) ∙ w.next_smaller-p.ensures.2)
+          ∙ sym (pass_idle (code_at b) o.count o.p i.place.symbol ths (between b) x (omega arith) h i.invariant.1 (omega (arith, w.if-tally-before.true))) ∙ o.invariant.4))
+    ]
 
 cast-passed : tie.Need-overflow_cast-passes invariant-loop3 decreases-loop3 invariant-loop2 decreases-loop2 invariant-loop decreases-loop
 cast-passed c = omega (arith, (done c.before).few)
@@ -387,11 +387,11 @@ same-length-4 : tie.Need-shape_of-zeros invariant-loop3 decreases-loop3 invarian
 same-length-4 c = (done c.before.before).len-zeros
 
 same-length-5 : tie.Need-shape_of-counters invariant-loop3 decreases-loop3 invariant-loop2 decreases-loop2 invariant-loop decreases-loop
-same-length-5 c = ap length (done c.before.before).counters-1
+same-length-5 c = ap length (done c.before.before).counters
 
 returns : tie.Need-returns invariant-loop3 decreases-loop3 invariant-loop2 decreases-loop2 invariant-loop decreases-loop
 unfolding run_of
-returns c = let d = done c.before.before in (rw c.passed.ensures (sym (passes_nil _ _ _) ∙ d.ran), (d.counts, d.counters-1))
+returns c = let d = done c.before.before in (rw c.passed.ensures (sym (passes_nil _ _ _) ∙ d.ran), (d.counts, d.counters))
 
 pub run_counted_spec : {M : Type 1} → statement M
 run_counted_spec =

@@ -17,47 +17,47 @@ use Rattle.reliabilities.proofs.reliability_at.Statement.{statement}
 use Rattle.reliabilities.proofs.reliability_at.Tie as tie
 
 -- the start, from where the place is found, and the code
-abbrev start : tie.After-place-of → tie.Start
+abbrev start : tie.After-place_of-place → tie.Start
 start c = c.before.before.before.before.before
 
 abbrev code_at : tie.Start → Code
 code_at b = code_by b.args.code b.args.positions.now
 
-checks-each-requires : tie.Need-checks-each-requires
+checks-each-requires : tie.Need-checks_each-requires
 checks-each-requires c κs = c.before.before.before.requires.0.table.sizes.b_low
 
-place-of-requires : tie.Need-place-of-requires
+place-of-requires : tie.Need-place_of-place-requires
 place-of-requires c κs =
     let b = c.before.before.before.before in
     let z = b.requires.0.table.sizes in
-    (z.k_low, z.k_high, omega (arith, c.checks-each.ensures, z.J-high), omega (arith, b.requires.2, z.data-high))
+    (z.k_low, z.k_high, omega (arith, c.checks_each.ensures, z.J-high), omega (arith, b.requires.2, z.data-high))
 
 -- the place is that of the symbol, and what it is good for
-number : (c : tie.After-place-of) → c.place_of.result.symbol ≡ (start c).args.symbol
-number c = ap (λ (p : Place). p.symbol) c.place_of.ensures
+number : (c : tie.After-place_of-place) → c.place_of-place.result.symbol ≡ (start c).args.symbol
+number c = ap (λ (p : Place). p.symbol) c.place_of-place.ensures
 
-place : (c : tie.After-place-of) → Found (code_at (start c)) (start c).args.s.now c.place_of.result
-place c = let b = start c in found b.pre.0 (placed_by (code_at b) _ _ _ c.before.checks-each.ensures b.pre.2 c.place_of.ensures)
+place : (c : tie.After-place_of-place) → Found (code_at (start c)) (start c).args.s.now c.place_of-place.result
+place c = let b = start c in found b.requires.0 (placed_by (code_at b) _ _ _ c.before.checks_each.ensures b.requires.2 c.place_of-place.ensures)
 
-sub-index : tie.Need-overflow-sub-index
+sub-index : tie.Need-overflow_sub-index
 sub-index c = omega (arith, (place c.before).start_low, number c.before)
 
-mul-reliability-in : tie.Need-overflow-mul-reliability-in
+mul-reliability-in : tie.Need-offset_bounds-positions-first
 mul-reliability-in c = let g = place c.before in omega (arith, g.few, g.first_last)
 
-sub-reliability-in : tie.Need-overflow-sub-reliability-in
+sub-reliability-in : tie.Need-slice_bounds-reliability_in-count
 sub-reliability-in c = (place c.before).first_last
 
-part-reliability-in-start : tie.Need-slice-bounds-reliability-in-start
+part-reliability-in-start : tie.Need-slice_bounds-reliability_in-start
 part-reliability-in-start c = (place c.before).first_last
 
-part-reliability-in-end : tie.Need-slice-bounds-reliability-in-end
+part-reliability-in-end : tie.Need-slice_bounds-reliability_in-end
 part-reliability-in-end c = (place c.before).last_in
 
-shared-slice-read-reliability-in : tie.Need-shared-slice-read-reliability-in
+shared-slice-read-reliability-in : tie.Need-bounds-d-symbol
 shared-slice-read-reliability-in c = search rules
 
-reliability-in-requires : tie.Need-reliability-in-requires
+reliability-in-requires : tie.Need-reliability_in-requires
 reliability-in-requires c κs =
     let p = c.before.before.before in
     let g = place p in
@@ -70,13 +70,13 @@ returns c =
     let a = b.args in
     let g = place p in
     let own = get_or a.d.now a.symbol 0 in
-    let index : a.symbol - p.place_of.result.start ≡ p.place_of.result.symbol - p.place_of.result.start = ap (λ (n : ℕ). n - p.place_of.result.start) (sym (number p)) in
-    read_back _ c.reliability-in.type_inv ∙ c.reliability-in.ensures
+    let index : a.symbol - p.place_of-place.result.start ≡ p.place_of-place.result.symbol - p.place_of-place.result.start = ap (λ (n : ℕ). n - p.place_of-place.result.start) (sym (number p)) in
+    read_back _ c.reliability_in.type_inv ∙ c.reliability_in.ensures
     ∙ ap (λ (is : List ℕ). reliability a.e (own ∷ symbols_at a.s.now is))
-    (ap (checks_by a.code.k (run_at p.place_of.result a.positions.now)) index ∙ g.checks_are ∙ ap (checks_of (code_at b)) (number p))
+    (ap (checks_by a.code.k (run_at p.place_of-place.result a.positions.now)) index ∙ g.checks_are ∙ ap (checks_of (code_at b)) (number p))
 
-pub reliability-at-spec : {M : Type 1} → statement M
-reliability-at-spec =
+pub reliability_at_spec : {M : Type 1} → statement M
+reliability_at_spec =
     tie.close
     (tie.spec
     checks-each-requires

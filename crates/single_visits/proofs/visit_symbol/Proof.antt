@@ -21,13 +21,13 @@ use Rattle.single_visits.proofs.visit_symbol.Statement.{statement}
 use Rattle.single_visits.proofs.visit_symbol.Tie as tie
 
 -- the start, from where J is found and from where the estimates are gathered; the code, the state and the estimates
-abbrev begin : tie.After-checks-each → tie.Start
+abbrev begin : tie.After-checks_each-each → tie.Start
 begin c = c.before.before.before.before.before
 
-abbrev each : tie.After-gather-symbol → tie.After-checks-each
-each c = c.before.before.before.before
+abbrev each : tie.After-gather_symbol → tie.After-checks_each-each
+each c = c.before.before
 
-abbrev start : tie.After-gather-symbol → tie.Start
+abbrev start : tie.After-gather_symbol → tie.Start
 start c = begin (each c)
 
 abbrev code_at : tie.Start → Code
@@ -39,117 +39,117 @@ stateAt b = state_by b.args.res.now b.args.syndrome.now b.args.difference.now
 abbrev told : tie.Start → List ℕ
 told b = estimates_at (code_at b) b.args.symbol (get_or b.args.difference.now b.args.symbol 0) b.args.syndrome.now
 
-checks-each-requires : tie.Need-checks-each-requires
+checks-each-requires : tie.Need-checks_each-each-requires
 checks-each-requires c κs = search rules
 
-add-n : tie.Need-overflow-add-n
+add-n : tie.Need-overflow_add-n
 add-n c = search rules
 
-array-borrow-prefix-es : tie.Need-array-borrow-prefix-es
+array-borrow-prefix-es : tie.Need-slice_bounds-es-end
 array-borrow-prefix-es c = search rules
 
-slice-aggregate-gather-symbol : tie.Need-slice-aggregate-gather-symbol
+slice-aggregate-gather-symbol : tie.Need-slice_bounds-gather_symbol-end
 slice-aggregate-gather-symbol c =
-    let e = c.before.before.before in
-    sym (length-take-le _ _ (omega (arith, e.checks-each.ensures, (begin e).requires.0.usable.table.sizes.J-high)))
+    let e = c.before in
+    sym (length-take-le _ _ (omega (arith, e.checks_each-each.ensures, (begin e).requires.0.usable.table.sizes.J-high)))
 
-gather-symbol-requires : tie.Need-gather-symbol-requires
+gather-symbol-requires : tie.Need-gather_symbol-requires
 gather-symbol-requires c κs =
-    let e = c.before.before.before in
+    let e = c.before in
     let p = (begin e).requires in (
       at_table _ _ p.0,
       p.0.sized.len_difference,
       p.1,
-      length-take-le _ _ (omega (arith, e.checks-each.ensures, p.0.usable.table.sizes.J-high)) ∙ ap (λ (n : ℕ). n + 1) e.checks-each.ensures,
+      length-take-le _ _ (omega (arith, e.checks_each-each.ensures, p.0.usable.table.sizes.J-high)) ∙ ap (λ (n : ℕ). n + 1) e.checks_each-each.ensures,
     )
 
 -- the part of the buffer that is read holds the estimates
-part : (c : tie.After-gather-symbol)
-    → let n = (each c).checks-each.result + 1 in
-    Gathered (told (start c)) (take n (c.gather-symbol.new.1.1.1.1.1.0 ++ drop n (replicate 33 0))) n
+part : (c : tie.After-gather_symbol)
+    → let n = (each c).checks_each-each.result + 1 in
+    Gathered (told (start c)) (take n (c.gather_symbol.new.es ++ drop n (replicate 33 0))) n
 part c =
     let b = start c in
-    gathered_at (code_at b) b.args.syndrome.now (at_table _ _ b.pre.0) b.args.symbol b.pre.1 _ _ _ _ c.gather-symbol.ensures
-    (ap (λ (n : ℕ). n + 1) (each c).checks-each.ensures)
+    gathered_at (code_at b) b.args.syndrome.now (at_table _ _ b.requires.0) b.args.symbol b.requires.1 _ _ _ _ c.gather_symbol.ensures
+    (ap (λ (n : ℕ). n + 1) (each c).checks_each-each.ensures)
 
-array-share-prefix-es : tie.Need-array-share-prefix-es
+array-share-prefix-es : tie.Need-slice_bounds-es-end-2
 array-share-prefix-es c =
     let g = c.before in
     let b = start g in
     simp length-append (omega (
       arith,
-      ap length g.gather-symbol.ensures,
+      ap length g.gather_symbol.ensures,
       length_symbols_at b.args.syndrome.now (checks_of (code_at b) b.args.symbol),
-      checks_length (code_at b) b.pre.0.usable.table b.args.symbol b.pre.1,
-      (each g).checks-each.ensures,
+      checks_length (code_at b) b.requires.0.usable.table b.args.symbol b.requires.1,
+      (each g).checks_each-each.ensures,
     ))
 
-slice-aggregate-decided : tie.Need-slice-aggregate-decided
+slice-aggregate-decided : tie.Need-slice_bounds-decided-end
 slice-aggregate-decided c = sym (part c.before.before).len
 
-slice-aggregate-decided-2 : tie.Need-slice-aggregate-decided-2
+slice-aggregate-decided-2 : tie.Need-slice_bounds-decided-end-2
 slice-aggregate-decided-2 c = search rules
 
-decided-requires : tie.Need-decided-requires
+decided-requires : tie.Need-decided-h-requires
 decided-requires c κs = let g = part c.before.before.before in (g.low, g.high, none_clear)
 
 -- what is subtracted, and that it is a symbol
-abbrev gathering : tie.After-decided → tie.After-gather-symbol
+abbrev gathering : tie.After-decided-h → tie.After-gather_symbol
 gathering c = c.before.before.before.before
 
-subtracted : (c : tie.After-decided) → c.decided.result ≡ to_subtract (start (gathering c)).args.threshold (told (start (gathering c)))
-subtracted c = c.decided.ensures.0 ∙ ap (to_subtract (start (gathering c)).args.threshold) (part (gathering c)).same
+subtracted : (c : tie.After-decided-h) → c.decided-h.result ≡ to_subtract (start (gathering c)).args.threshold (told (start (gathering c)))
+subtracted c = c.decided-h.ensures.0 ∙ ap (to_subtract (start (gathering c)).args.threshold) (part (gathering c)).same
 
-low : (c : tie.After-decided) → c.decided.result < (start (gathering c)).args.code.q
-low c = let b = start (gathering c) in omega (arith, subtracted c, ready_subtract _ _ b.pre.0 b.args.threshold b.args.symbol)
+low : (c : tie.After-decided-h) → c.decided-h.result < (start (gathering c)).args.code.q
+low c = let b = start (gathering c) in omega (arith, subtracted c, ready_subtract _ _ b.requires.0 b.args.threshold b.args.symbol)
 
-same_length : tie.Need-same-length
+same_length : tie.Need-shape_of-syndrome-then-h-eq0
 same_length c = search rules
 
-same-length-2 : tie.Need-same-length-2
+same-length-2 : tie.Need-shape_of-difference-then-h-eq0
 same-length-2 c = search rules
 
-returns : tie.Need-returns
-returns c = visit_left _ _ _ _ _ _ (sym c.if1.true ∙ subtracted c.before.before)
+returns : tie.Need-returns-then-h-eq0
+returns c = visit_left _ _ _ _ _ _ (sym c.if-h-eq0.true ∙ subtracted c.before.before)
 
-place-of-requires : tie.Need-place-of-requires
+place-of-requires : tie.Need-place_of-place-requires
 place-of-requires c κs = search rules
 
-change-at-requires : tie.Need-change-at-requires
+change-at-requires : tie.Need-change_at-requires
 change-at-requires c κs =
     let p = c.before.before.before in
     let d = p.before.before.before in
     let b = start (gathering d) in
-    (b.pre.0, placed_by (code_at b) _ _ _ (each (gathering d)).checks-each.ensures b.pre.1 p.place_of.ensures, low d)
+    (b.requires.0, placed_by (code_at b) _ _ _ (each (gathering d)).checks_each-each.ensures b.requires.1 p.place_of-place.ensures, low d)
 
 changed-requires : tie.Need-changed-requires
 changed-requires c κs =
     let k = c.before.before.before.before.before.before in
     (start (gathering k.before.before.before.before.before.before.before)).requires.2
 
-same-length-3 : tie.Need-same-length-3
+same-length-3 : tie.Need-shape_of-res
 same-length-3 c = search rules
 
-same-length-4 : tie.Need-same-length-4
+same-length-4 : tie.Need-shape_of-syndrome
 same-length-4 c = search rules
 
-same-length-5 : tie.Need-same-length-5
+same-length-5 : tie.Need-shape_of-difference
 same-length-5 c = search rules
 
-returns-2 : tie.Need-returns-2
+returns-2 : tie.Need-returns
 returns-2 c =
     let k = c.before.before.before.before.before.before.before in
     let p = k.before.before.before.before in
     let d = p.before.before.before in
     let b = start (gathering d) in
     both
-    (k.change-at.ensures
-    ∙ ap (λ (x : Place). change b.args.code.q (checks_of (code_at b) x.symbol) x.symbol d.decided.result (stateAt b)) p.place_of.ensures)
+    (k.change_at.ensures
+    ∙ ap (λ (x : Place). change b.args.code.q (checks_of (code_at b) x.symbol) x.symbol d.decided-h.result (stateAt b)) p.place_of-place.ensures)
     c.changed.ensures
-    ∙ visit_made _ _ _ _ _ _ d.decided.result (subtracted d) p.before.if1.false
+    ∙ visit_made _ _ _ _ _ _ d.decided-h.result (subtracted d) p.before.if-h-eq0.false
 
-pub visit-symbol-spec : {M : Type 1} → statement M
-visit-symbol-spec =
+pub visit_symbol_spec : {M : Type 1} → statement M
+visit_symbol_spec =
     tie.close
     (tie.spec
     checks-each-requires

@@ -17,7 +17,7 @@ loop-holds c = from_end _ _ _ (omega arith)
 
 -- what stands is small
 small : (c : tie.In-loop-i invariant-loop decreases-loop) → let l = c.before.loop-i in l.bits ≤ 8589934591
-small c = let l = c.before in from_small _ _ _ _ l.before.before.requires l.loop.invariant
+small c = let l = c.before in from_small _ _ _ _ l.before.before.requires l.loop-i.invariant
 
 sub-i : tie.Need-overflow_sub-i invariant-loop decreases-loop
 sub-i c = search rules
