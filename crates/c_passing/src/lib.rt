@@ -1,5 +1,6 @@
 // The C form of a pass, which reads the positions of the table, has the buffer for the zeros and writes the changes as bytes.
 #![tactic(auto)]
+
 ghost use Rattle.std.specs.Prelude.{◌≡◌, ◌*◌, ◌≤◌, length};
 ghost use Rattle.model.specs.Code.{code_in};
 ghost use Rattle.model.specs.Decoder.{state_by};

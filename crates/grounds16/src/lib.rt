@@ -1,5 +1,6 @@
 // Why a data symbol of two bytes is left or would be changed.
 #![tactic(auto)]
+
 ghost use Rattle.std.specs.Prelude.{◌≡◌, ◌<◌, length, get_or};
 ghost use Rattle.model.specs.Code.{data_count};
 ghost use Rattle.checks.specs.Checks.{AtChecks, estimates_by};

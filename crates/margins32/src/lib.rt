@@ -1,5 +1,6 @@
 // The margins of data symbols of four bytes.
 #![tactic(auto)]
+
 ghost use Rattle.std.specs.Prelude.{◌≡◌, List, ℕ, ◌<◌, length};
 ghost use Rattle.model.specs.Code.{data_count, checks_by};
 ghost use Rattle.model.specs.Decoder.{state_by, margins_of};

@@ -1,5 +1,6 @@
 // The run of passes over data symbols of two bytes.
 #![tactic(auto)]
+
 ghost use Rattle.std.specs.Prelude.{◌≡◌, ◌≤◌, length};
 ghost use Rattle.model.specs.Code.{data_count, check_count};
 ghost use Rattle.model.specs.Decoder.{state_by};

@@ -1,5 +1,6 @@
 // The call pass: one pass with one threshold on the result, S and D, for every form of the call, and the Rattle form.
 #![tactic(auto)]
+
 ghost use Rattle.std.specs.Prelude.{◌≡◌, true, ◌*◌, ◌≤◌, length};
 ghost use Rattle.model.specs.Code.{code_in, code_of};
 ghost use Rattle.model.specs.Decoder.{state_by};

@@ -17,7 +17,7 @@ use Rattle.c_passing.proofs.pass.Statement.{statement}
 use Rattle.c_passing.proofs.pass.Tie as tie
 
 -- the start, from where the buffer for the positions is chosen, and what was lent
-abbrev start : tie.After-slice-known4 → tie.Start
+abbrev start : tie.After-slice_known-4-1 → tie.Start
 start c = c.before.before.before.before.before
 
 abbrev lent : tie.Start → State
@@ -33,71 +33,71 @@ whole s xs e r x h =
     let a = s.args in
     pass_whole (profile_of a.bits) a.q a.k a.b xs (positions_of a.table.now) e a.threshold (lent s) a.changes.now r x h
 
-slice-aggregate-read-positions : tie.Need-slice-aggregate-read-positions
+slice-aggregate-read-positions : tie.Need-slice_bounds-read_positions-end
 slice-aggregate-read-positions c = search rules
 
-read-positions-requires : tie.Need-read-positions-requires
+read-positions-requires : tie.Need-read_positions-n-requires
 read-positions-requires c κs = search rules
 
-array-share-prefix-few : tie.Need-array-share-prefix-few
+array-share-prefix-few : tie.Need-slice_bounds-few-end
 array-share-prefix-few c = search rules
 
-slice-aggregate-pass-sized : tie.Need-slice-aggregate-pass-sized
+slice-aggregate-pass-sized : tie.Need-slice_bounds-pass_sized-end
 slice-aggregate-pass-sized c = sym (length-take-le _ _ (omega arith))
 
-pass-sized-requires : tie.Need-pass-sized-requires
+pass-sized-requires : tie.Need-pass_sized-requires
 pass-sized-requires c κs = search rules
 
-same_length : tie.Need-same-length
+same_length : tie.Need-shape_of-res-then-table-le64
 same_length c = search rules
 
-same-length-2 : tie.Need-same-length-2
+same-length-2 : tie.Need-shape_of-syndrome-then-table-le64
 same-length-2 c = search rules
 
-same-length-3 : tie.Need-same-length-3
+same-length-3 : tie.Need-shape_of-difference-then-table-le64
 same-length-3 c = search rules
 
-same-length-4 : tie.Need-same-length-4
+same-length-4 : tie.Need-shape_of-changes-then-table-le64
 same-length-4 c = search rules
 
-returns : tie.Need-returns
+returns : tie.Need-returns-then-table-le64
 returns c =
     let p = c.before.before.before.before.before.before.before.before in
     let r = p.before.before.before.before.before.before.before in
-    whole (start r.before.before.before) _ r.read-positions.ensures.1 _ _ p.pass-sized.ensures
+    whole (start r.before.before.before) _ r.read_positions-n.ensures.1 _ _ p.pass_sized.ensures
 
-slice-aggregate-read-positions-2 : tie.Need-slice-aggregate-read-positions-2
+slice-aggregate-read-positions-2 : tie.Need-slice_bounds-read_positions-end-2
 slice-aggregate-read-positions-2 c = search rules
 
-read-positions-requires-2 : tie.Need-read-positions-requires-2
+read-positions-requires-2 : tie.Need-read_positions-n-requires-2
 read-positions-requires-2 c κs = search rules
 
-array-share-prefix-positions : tie.Need-array-share-prefix-positions
+array-share-prefix-positions : tie.Need-slice_bounds-positions-end
 array-share-prefix-positions c = search rules
 
-slice-aggregate-pass-sized-2 : tie.Need-slice-aggregate-pass-sized-2
+slice-aggregate-pass-sized-2 : tie.Need-slice_bounds-pass_sized-end-2
 slice-aggregate-pass-sized-2 c = sym (length-take-le _ _ (omega arith))
 
-pass-sized-requires-2 : tie.Need-pass-sized-requires-2
+pass-sized-requires-2 : tie.Need-pass_sized-requires-2
 pass-sized-requires-2 c κs = search rules
 
-same-length-5 : tie.Need-same-length-5
+same-length-5 : tie.Need-shape_of-res
 same-length-5 c = search rules
 
-same-length-6 : tie.Need-same-length-6
+same-length-6 : tie.Need-shape_of-syndrome
 same-length-6 c = search rules
 
-same-length-7 : tie.Need-same-length-7
+same-length-7 : tie.Need-shape_of-difference
 same-length-7 c = search rules
 
-same-length-8 : tie.Need-same-length-8
+same-length-8 : tie.Need-shape_of-changes
 same-length-8 c = search rules
 
-returns-2 : tie.Need-returns-2
+returns-2 : tie.Need-returns
 returns-2 c =
     let p = c.before.before.before.before.before.before.before.before in
     let r = p.before.before.before.before.before.before.before in
-    whole (start r.before.before.before) _ r.read-positions2.ensures.1 _ _ p.pass-sized2.ensures
+    whole (start r.before.before.before) _ r.read_positions-n-2.ensures.1 _ _ p.pass_sized-2.ensures
 
 pub pass_spec : {M : Type 1} → statement M
 pass_spec =

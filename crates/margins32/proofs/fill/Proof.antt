@@ -15,46 +15,46 @@ use Rattle.margins32.proofs.fill.Statement.{statement}
 use Rattle.margins32.proofs.fill.Tie as tie
 
 -- the start, from the two ways
-abbrev firm : tie.Then1 → tie.Start
+abbrev firm : tie.Then-end-eq0 → tie.Start
 firm c = c.before.before.before.before.before
 
-abbrev other : tie.Else1 → tie.Start
+abbrev other : tie.Else-end-eq0 → tie.Start
 other c = c.before.before.before.before.before
 
-checks-each-requires : tie.Need-checks-each-requires
+checks-each-requires : tie.Need-checks_each-requires
 checks-each-requires c κs = (firm c).requires.0.checks.table.sizes.b_low
 
-add-write-firm : tie.Need-overflow-add-write-firm
-add-write-firm c = let b = firm c.before in omega (arith, c.checks-each.ensures, b.pre.0.checks.table.sizes.J-high)
+add-write-firm : tie.Need-overflow_add-checks_each
+add-write-firm c = let b = firm c.before in omega (arith, c.checks_each.ensures, b.requires.0.checks.table.sizes.J-high)
 
-cast-write-firm : tie.Need-overflow-cast-write-firm
-cast-write-firm c = let b = firm c.before in omega (arith, c.checks-each.ensures, b.pre.0.checks.table.sizes.J-high)
+cast-write-firm : tie.Need-overflow_cast-checks_each
+cast-write-firm c = let b = firm c.before in omega (arith, c.checks_each.ensures, b.requires.0.checks.table.sizes.J-high)
 
-write-firm-requires : tie.Need-write-firm-requires
+write-firm-requires : tie.Need-write_firm-requires
 write-firm-requires c κs =
     let e = c.before in
-    omega (arith, e.checks-each.ensures, (firm e.before).requires.0.checks.table.sizes.J-high)
+    omega (arith, e.checks_each.ensures, (firm e.before).requires.0.checks.table.sizes.J-high)
 
-data-count-requires : tie.Need-data-count-requires
+data-count-requires : tie.Need-data_count-n-requires
 data-count-requires c κs = omega (arith, (other c).requires.0.checks.table.sizes.data-high)
 
-slice-aggregate-write-margins : tie.Need-slice-aggregate-write-margins
+slice-aggregate-write-margins : tie.Need-slice_bounds-write_margins-end
 slice-aggregate-write-margins c =
-    let n = c.before in
-    sym (length-take-le _ _ (omega (arith, n.data-count.ensures, (other n.before).requires.0.room)))
+    let n = c in
+    sym (length-take-le _ _ (omega (arith, n.data_count-n.ensures, (other n.before).requires.0.room)))
 
-write-margins-requires : tie.Need-write-margins-requires
+write-margins-requires : tie.Need-write_margins-requires
 write-margins-requires c κs =
-    let n = c.before.before in
+    let n = c.before in
     let e = n.before in
     let b = other e in
-    let l = b.pre.0 in
-    (l.checks, ap (λ (m : ℕ). take m b.args.zeros.now) n.data-count.ensures ∙ l.counted e.if1.false, l.len_difference, b.pre.1)
+    let l = b.requires.0 in
+    (l.checks, ap (λ (m : ℕ). take m b.args.zeros.now) n.data_count-n.ensures ∙ l.counted e.if-end-eq0.false, l.len_difference, b.requires.1)
 
-same_length : tie.Need-same-length
+same_length : tie.Need-shape_of-margins-then-end-eq0
 same_length c = search rules
 
-returns : tie.Need-returns
+returns : tie.Need-returns-then-end-eq0
 unfolding state_weight
 returns c r =
     let w = c.before in
@@ -63,14 +63,14 @@ returns c r =
     let b = firm t in
     let a = b.args in
     let code = code_by32 a.code a.positions.now in
-    w.write-firm.ensures ∙ ap (λ (n : ℕ). map (λ j. pos (k.checks-each.result + 1) -ℤ pos 0) (tabulate n (λ j. j))) b.pre.1
-    ∙ margins_firm code b.pre.0.checks.table (state_by r a.s.now a.d.now) _ (ap (λ (n : ℕ). n + 1) k.checks-each.ensures) (sym b.pre.0.weighed ∙ t.if1.true)
+    w.write_firm.ensures ∙ ap (λ (n : ℕ). map (λ j. pos (k.checks_each.result + 1) -ℤ pos 0) (tabulate n (λ j. j))) b.requires.1
+    ∙ margins_firm code b.requires.0.checks.table (state_by r a.s.now a.d.now) _ (ap (λ (n : ℕ). n + 1) k.checks_each.ensures) (sym b.requires.0.weighed ∙ t.if-end-eq0.true)
 
-same-length-2 : tie.Need-same-length-2
+same-length-2 : tie.Need-shape_of-margins-else-end-eq0
 same-length-2 c = search rules
 
-returns-2 : tie.Need-returns-2
-returns-2 c r = c.before.write-margins.ensures r
+returns-2 : tie.Need-returns-else-end-eq0
+returns-2 c r = c.before.write_margins.ensures r
 
 pub fill_spec : {M : Type 1} → statement M
 fill_spec =

@@ -34,52 +34,52 @@ counted c =
 equal-requires : tie.Need-equal-requires
 equal-requires c κs = search rules
 
-add-zeros : tie.Need-overflow-add-zeros
+add-zeros : tie.Need-overflow_add-zeros
 add-zeros c = let k = counted c in omega (arith, k.zero-count, k.few, count_le 0 (estimates c))
 
-add-n : tie.Need-overflow-add-n
+add-n : tie.Need-overflow_add-n
 add-n c = search rules
 
-cast-if1 : tie.Need-overflow-cast-if1
+cast-if1 : tie.Need-overflow_cast-zeros
 cast-if1 c = search rules
 
-margin-of-requires : tie.Need-margin-of-requires
-margin-of-requires c κs = let k = counted c.before in (omega (arith, k.len, k.few, c.if1.true), omega arith)
+margin-of-requires : tie.Need-margin_of-requires
+margin-of-requires c κs = let k = counted c.before in (omega (arith, k.len, k.few, c.if-zeros-n.true), omega arith)
 
-returns : tie.Need-returns
+returns : tie.Need-returns-then-zeros-n
 returns c =
     let q = c.before.before in
     let k = counted q in
-    read_back _ c.margin-of.type_inv ∙ c.margin-of.ensures ∙ ap (λ (n : ℕ). pos n -ℤ pos 0) k.zero-count
-    ∙ margin_firm (estimates q) (omega (arith, k.zero-count, k.len, c.before.if1.true))
+    read_back _ c.margin_of.type_inv ∙ c.margin_of.ensures ∙ ap (λ (n : ℕ). pos n -ℤ pos 0) k.zero-count
+    ∙ margin_firm (estimates q) (omega (arith, k.zero-count, k.len, c.before.if-zeros-n.true))
 
-cast-if2 : tie.Need-overflow-cast-if2
+cast-if2 : tie.Need-overflow_cast-zeros-2
 cast-if2 c = search rules
 
-add-if2 : tie.Need-overflow-add-if2
+add-if2 : tie.Need-overflow_add-zeros-2
 add-if2 c = search rules
 
-margin-of-requires-2 : tie.Need-margin-of-requires-2
-margin-of-requires-2 c κs = let k = counted c.before.before in (omega (arith, k.len, k.few, c.if2.true), omega arith)
+margin-of-requires-2 : tie.Need-margin_of-requires-then-zeros-n-2
+margin-of-requires-2 c κs = let k = counted c.before.before in (omega (arith, k.len, k.few, c.if-zeros-n-2.true), omega arith)
 
-returns-2 : tie.Need-returns-2
+returns-2 : tie.Need-returns-then-zeros-n-2
 returns-2 c =
     let q = c.before.before.before in
     let k = counted q in
-    read_back _ c.margin-of2.type_inv ∙ c.margin-of2.ensures ∙ ap (λ (n : ℕ). pos n -ℤ pos 1) k.zero-count
-    ∙ margin_but_one (estimates q) (omega (arith, k.zero-count, k.len, c.before.if2.true))
+    read_back _ c.margin_of-then-zeros-n-2.type_inv ∙ c.margin_of-then-zeros-n-2.ensures ∙ ap (λ (n : ℕ). pos n -ℤ pos 1) k.zero-count
+    ∙ margin_but_one (estimates q) (omega (arith, k.zero-count, k.len, c.before.if-zeros-n-2.true))
 
-margin-counted-requires : tie.Need-margin-counted-requires
+margin-counted-requires : tie.Need-margin_counted-requires
 margin-counted-requires c κs =
     let q = c.before.before in
     let p = q.before.before.before.requires in
     (p.0, p.1, (counted q).zero-count)
 
-returns-3 : tie.Need-returns-3
-returns-3 c = read_back _ c.margin-counted.type_inv ∙ c.margin-counted.ensures
+returns-3 : tie.Need-returns
+returns-3 c = read_back _ c.margin_counted.type_inv ∙ c.margin_counted.ensures
 
-pub margin-at-spec : {M : Type 1} → statement M
-margin-at-spec =
+pub margin_at_spec : {M : Type 1} → statement M
+margin_at_spec =
     tie.close
     (tie.spec
     equal-requires

@@ -21,21 +21,21 @@ estimates b = let a = b.args in estimates_by a.code.k a.positions.now a.j a.own 
 few : (b : tie.Start) → length (estimates b) ≤ 33
 few b = let a = b.args in omega (arith, estimates_length a.code.k a.positions.now a.j a.own a.s.now, b.requires.0.J-high)
 
-most-other-at-requires : tie.Need-most-other-at-requires
+most-other-at-requires : tie.Need-most_other_at-requires
 most-other-at-requires c κs = search rules
 
-margin-of-requires : tie.Need-margin-of-requires
+margin-of-requires : tie.Need-margin_of-requires
 margin-of-requires c κs =
     let b = c.before.before.before in
-    (omega (arith, b.requires.2, few b, count_le 0 (estimates b)), omega (arith, c.most-other-at.ensures, others_few (estimates b), few b))
+    (omega (arith, b.requires.2, few b, count_le 0 (estimates b)), omega (arith, c.most_other_at.ensures, others_few (estimates b), few b))
 
 returns : tie.Need-returns
 unfolding margin
 returns c =
     let o = c.before in
     let b = o.before.before.before in
-    read_back _ c.margin-of.type_inv ∙ c.margin-of.ensures ∙ ap (λ (n : ℕ). pos n -ℤ pos o.most-other-at.result) b.requires.2
-    ∙ ap (λ (n : ℕ). pos (count 0 (estimates b)) -ℤ pos n) o.most-other-at.ensures
+    read_back _ c.margin_of.type_inv ∙ c.margin_of.ensures ∙ ap (λ (n : ℕ). pos n -ℤ pos o.most_other_at.result) b.requires.2
+    ∙ ap (λ (n : ℕ). pos (count 0 (estimates b)) -ℤ pos n) o.most_other_at.ensures
 
-pub margin-counted-spec : {M : Type 1} → statement M
-margin-counted-spec = tie.close (tie.spec most-other-at-requires margin-of-requires returns)
+pub margin_counted_spec : {M : Type 1} → statement M
+margin_counted_spec = tie.close (tie.spec most-other-at-requires margin-of-requires returns)

@@ -10,6 +10,7 @@ use Rattle.model.specs.Outer.{reliability_of, least_below}
 use Rattle.params.specs.Codes.{code_by}
 use Rattle.margins.specs.Margins.{read_back}
 use Rattle.outer_steps.specs.Weakest.{LeastTo, least_first, least_less, least_same}
+use lib.IntN.{ℤ}
 use Rattle.outer_steps.proofs.weakest_of.Statement.{statement}
 use Rattle.outer_steps.proofs.weakest_of.Tie as tie
 use Rattle.outer_steps.proofs.weakest_of.Lts.{then-r-least, else-r-least}
@@ -58,12 +59,12 @@ loop-again c =
     let l = i.before.loop-j in
     let v = read_back _ c.before.reliability_at-r.type_inv ∙ c.before.reliability_at-r.ensures in
     elim c.if-r-least.branch [
-      | then-r-least w ↦ subst (λ (n : ℕ). LeastTo r a.first a.last (l.j + 1) n (to_z w32 c.if-r-least.least)) (sym w.best-is)
-    (subst (λ (m : ℕ). LeastTo r a.first a.last (l.j + 1) l.j (to_z w32 m)) (sym w.least-is)
-    (least_less r a.first a.last l.j l.best (to_z w32 l.least) _ l.invariant i.loop-j-test.true v w.if-r-least.true))
-      | else-r-least w ↦ subst (λ (n : ℕ). LeastTo r a.first a.last (l.j + 1) n (to_z w32 c.if-r-least.least)) (sym w.best-is)
-    (subst (λ (m : ℕ). LeastTo r a.first a.last (l.j + 1) l.best (to_z w32 m)) (sym w.least-is)
-    (least_same r a.first a.last l.j l.best (to_z w32 l.least) _ l.invariant i.loop-j-test.true v w.if-r-least.false))
+      | then-r-least w ↦ subst (λ (n : ℕ). LeastTo r a.first a.last (l.j + 1) n c.if-r-least.least) (sym w.best-is)
+          (subst (λ (m : ℤ). LeastTo r a.first a.last (l.j + 1) l.j m) (sym w.least-is)
+          (least_less r a.first a.last l.j l.best _ _ l.invariant i.loop-j-test.true v w.if-r-least.true))
+      | else-r-least w ↦ subst (λ (n : ℕ). LeastTo r a.first a.last (l.j + 1) n c.if-r-least.least) (sym w.best-is)
+          (subst (λ (m : ℤ). LeastTo r a.first a.last (l.j + 1) l.best m) (sym w.least-is)
+          (least_same r a.first a.last l.j l.best _ _ l.invariant i.loop-j-test.true v w.if-r-least.false))
     ]
 
 returns : tie.Need-returns invariant-loop decreases-loop

@@ -6,27 +6,27 @@ use Rattle.wide.specs.Marks.{marks_of, marks_at_table, marks_zeros}
 use Rattle.passes16.proofs.run.Statement.{statement}
 use Rattle.passes16.proofs.run.Tie as tie
 
-mark-into-requires : tie.Need-mark-into-requires
-mark-into-requires c κs = let p = c.before.before.before.before.before.before.before.before.before.requires in p.5 ∙ sym p.0.sized.len_syndrome
+mark-into-requires : tie.Need-mark_into-requires
+mark-into-requires c κs = let p = c.before.before.before.before.before.before.before.before.requires in p.5 ∙ sym p.0.sized.len_syndrome
 
-abbrev start : tie.After-mark-into → tie.Start
-start c = c.before.before.before.before.before.before.before.before.before.before
+abbrev start : tie.After-mark_into → tie.Start
+start c = c.before.before.before.before.before.before.before.before.before
 
 -- the marks that are made
-marked : (c : tie.After-mark-into) → c.mark-into.new.0 ≡ marks_of (start c).args.syndrome.now
+marked : (c : tie.After-mark_into) → c.mark_into.new.marks ≡ marks_of (start c).args.syndrome.now
 unfolding marks_of
-marked c = c.mark-into.ensures
+marked c = c.mark_into.ensures
 
-count-zeros-requires : tie.Need-count-zeros-requires
+count-zeros-requires : tie.Need-count_zeros-requires
 count-zeros-requires c κs =
-    let m = c.before.before.before.before in
+    let m = c.before.before.before in
     let p = (start m).requires in
     (marks_at_table _ (at_table _ _ p.0) (marked m), p.3, p.4)
 
-run-counted-requires : tie.Need-run-counted-requires
+run-counted-requires : tie.Need-run_counted-requires
 run-counted-requires c κs =
     let z = c.before.before.before.before.before.before.before in
-    let m = z.before.before.before.before.before in
+    let m = z.before.before.before.before in
     let p = (start m).requires in
     let a = (start m).args in (
       p.0,
@@ -36,19 +36,19 @@ run-counted-requires c κs =
       marked m,
     )
 
-same_length : tie.Need-same-length
+same_length : tie.Need-shape_of-res
 same_length c = search rules
 
-same-length-2 : tie.Need-same-length-2
+same-length-2 : tie.Need-shape_of-syndrome
 same-length-2 c = search rules
 
-same-length-3 : tie.Need-same-length-3
+same-length-3 : tie.Need-shape_of-difference
 same-length-3 c = search rules
 
-same-length-4 : tie.Need-same-length-4
+same-length-4 : tie.Need-shape_of-zeros
 same-length-4 c = search rules
 
-same-length-5 : tie.Need-same-length-5
+same-length-5 : tie.Need-shape_of-marks
 same-length-5 c = search rules
 
 returns : tie.Need-returns
