@@ -1,5 +1,6 @@
 // The correction of a page of four-byte symbols that was tested: the page is opened, the passes are run, and the distance at the end is counted.
 #![tactic(auto)]
+
 ghost use Rattle.std.specs.Prelude.{◌≡◌, ◌≢◌, ◌+◌, ◌≤◌, ◌++◌, length};
 ghost use Rattle.model.specs.Symbols.{weight};
 ghost use Rattle.model.specs.Code.{data_count, check_count};

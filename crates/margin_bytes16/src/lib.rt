@@ -1,5 +1,6 @@
 // The margins of a decode on symbols of two bytes as the C calls hand them back: four bytes for each, low byte first, in two's complement.
 #![tactic(auto)]
+
 ghost use Rattle.std.specs.Prelude.{◌≡◌, List, ℕ, ◌*◌, ◌≤◌, length};
 ghost use Rattle.model.specs.Bytes.{margin_bytes};
 ghost use Rattle.model.specs.Code.{data_count, checks_each};

@@ -1,5 +1,6 @@
 // The correction of a page in blocks, for every form of decode: the passes, then the outer steps where the passes leave a distance.
 #![tactic(auto)]
+
 ghost use Rattle.std.specs.Prelude.{◌≡◌, ◌≢◌, length};
 ghost use Rattle.model.specs.Code.{data_count};
 ghost use Rattle.model.specs.Decoder.{state_by};

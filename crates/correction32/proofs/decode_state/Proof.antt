@@ -13,19 +13,16 @@ use Rattle.correction32.proofs.decode_state.Statement.{statement}
 use Rattle.correction32.proofs.decode_state.Tie as tie
 
 -- the places that later ones look back to: the start, the opening, the run
-abbrev start : tie.After-open-state → tie.Start
-start c = c.before.before.before.before.before.before.before.before.before.before.before
+abbrev start : tie.After-open_state-start → tie.Start
+start c = c.before.before.before.before.before.before.before.before.before.before
 
-abbrev opening : tie.Else1 → tie.After-open-state
+abbrev opening : tie.Else-start-eq0 → tie.After-open_state-start
 opening c = c.before.before.before.before.before
 
-abbrev ran : tie.After-state-weight-arg2 → tie.After-run
-ran c = c.before.before.before.before.before.before.before.before.before.before.before.before
-
-open-state-requires : tie.Need-open-state-requires
+open-state-requires : tie.Need-open_state-start-requires
 open-state-requires c κs = search rules
 
-idle-passes-requires : tie.Need-idle-passes-requires
+idle-passes-requires : tie.Need-idle_passes-idle-requires
 idle-passes-requires c κs = (start c.before.before.before.before.before).requires.0.few
 
 opened-requires : tie.Need-opened-requires
@@ -34,110 +31,110 @@ opened-requires c κs = search rules
 passed-requires : tie.Need-passed-requires
 passed-requires c κs = search rules
 
-same_length : tie.Need-same-length
+same_length : tie.Need-shape_of-res-then-start-eq0
 same_length c = search rules
 
-same-length-2 : tie.Need-same-length-2
+same-length-2 : tie.Need-shape_of-s-then-start-eq0
 same-length-2 c = search rules
 
-same-length-3 : tie.Need-same-length-3
+same-length-3 : tie.Need-shape_of-d-then-start-eq0
 same-length-3 c = search rules
 
-returns : tie.Need-returns
+returns : tie.Need-returns-then-start-eq0
 returns c =
     let clean = c.before.before.before in
     let o = clean.before.before.before.before.before in
     let b = start o in
     let a = b.args in
     rw (c.passed.ensures, c.before.opened.ensures) (
-      both o.open-state.ensures.0 refl
-          ∙ clean_decoded (code_by32 a.code a.positions.now) (a.result.now ++ a.s.now) b.pre.0.opens.usable b.pre.0.opens.whole
-          (sym o.open-state.ensures.1 ∙ clean.if1.true) a.thresholds.now _ c.before.before.idle-passes.ensures,
+      both o.open_state-start.ensures.0 refl
+          ∙ clean_decoded (code_by32 a.code a.positions.now) (a.res.now ++ a.s.now) b.requires.0.opens.usable b.requires.0.opens.whole
+          (sym o.open_state-start.ensures.1 ∙ clean.if-start-eq0.true) a.thresholds.now _ c.before.before.idle_passes-idle.ensures,
       (λ n. absurd (n refl)),
     )
 
-opened-requires-2 : tie.Need-opened-requires-2
+opened-requires-2 : tie.Need-opened-opened-requires
 opened-requires-2 c κs = search rules
 
-run-requires : tie.Need-run-requires
+run-requires : tie.Need-run-ran-requires
 run-requires c κs =
     let t = c.before.before.before.before.before in
     let o = opening t.before in
     let b = start o in
     let a = b.args in
     let code = code_by32 a.code a.positions.now in (
-      subst (λ (st : State). ReadyIn 4294967296 code st) (sym o.open-state.ensures.0)
-          (opened_ready code (a.result.now ++ a.s.now) b.pre.0.opens.usable b.pre.0.opens.whole (omega arith)),
-      b.pre.0.few,
-      ap (λ (t : Tally). t.changes) t.opened2.ensures,
-      b.pre.1,
-      b.pre.2,
-      b.pre.3,
+      subst (λ (st : State). ReadyIn 4294967296 code st) (sym o.open_state-start.ensures.0)
+          (opened_ready code (a.res.now ++ a.s.now) b.requires.0.opens.usable b.requires.0.opens.whole (omega arith)),
+      b.requires.0.few,
+      ap (λ (t : Tally). t.changes) t.opened-opened.ensures,
+      b.requires.1,
+      b.requires.2,
+      b.requires.3,
     )
 
 -- what the passes left is the run from the opened page
-from-opened : (r : tie.After-run)
+from-opened : (r : tie.After-run-ran)
     → let o = opening r.before.before.before.before.before.before.before in
     let a = (start o).args in
     let code = code_by32 a.code a.positions.now in
     run_of code a.thresholds.now
-    (progress a.result.now o.open-state.last.1.1.1.0 o.open-state.last.1.1.1.1.0 r.before.before.before.before.before.before.opened2.result)
-    ≡ run_of code a.thresholds.now (start_at code (a.result.now ++ a.s.now) o.open-state.result)
+    (progress a.res.now o.open_state-start.new.s o.open_state-start.new.d r.before.before.before.before.before.before.opened-opened.result)
+    ≡ run_of code a.thresholds.now (start_at code (a.res.now ++ a.s.now) o.open_state-start.result)
 from-opened r =
     let t = r.before.before.before.before.before.before in
     let o = opening t.before in
-    ap (run_of _ _) (both o.open-state.ensures.0 t.opened2.ensures)
+    ap (run_of _ _) (both o.open_state-start.ensures.0 t.opened-opened.ensures)
 
-state-weight-requires : tie.Need-state-weight-requires
+state-weight-requires : tie.Need-state_weight-requires
 state-weight-requires c κs =
-    let r = ran c in
+    let r = c.before.before.before.before.before.before.before.before.before.before in
     let o = opening r.before.before.before.before.before.before.before in
     let b = start o in
     let a = b.args in
-    run_lengths (code_by32 a.code a.positions.now) (a.result.now ++ a.s.now) b.pre.0.opens.usable b.pre.0.opens.whole
-    a.thresholds.now _ _ (r.run.ensures.0 ∙ from-opened r)
+    run_lengths (code_by32 a.code a.positions.now) (a.res.now ++ a.s.now) b.requires.0.opens.usable b.requires.0.opens.whole
+    a.thresholds.now _ _ (r.run-ran.ensures.0 ∙ from-opened r)
 
 ended-requires : tie.Need-ended-requires
 ended-requires c κs = search rules
 
 -- the result, S and D where the passes left them and where the page was opened
-abbrev passed : tie.After-ended → tie.After-result
-passed c = c.before.before.before.before.before.before.before.before.before.before.before.before.before
+abbrev passed : tie.After-ended → tie.After-res-1
+passed c = c.before.before.before.before.before.before.before.before.before.before.before
 
-abbrev opened-page : tie.After-result → tie.After-d
+abbrev opened-page : tie.After-res-1 → tie.After-d-1
 opened-page c = c.before.before.before.before.before.before.before.before.before.before
 
-same-length-4 : tie.Need-same-length-4
+same-length-4 : tie.Need-shape_of-zeros
 same-length-4 c = search rules
 
-same-length-5 : tie.Need-same-length-5
+same-length-5 : tie.Need-shape_of-marks
 same-length-5 c = search rules
 
-same-length-6 : tie.Need-same-length-6
-same-length-6 c = omega (arith, (passed c).result.given)
+same-length-6 : tie.Need-shape_of-res
+same-length-6 c = omega (arith, (passed c).res-1.given)
 
-same-length-7 : tie.Need-same-length-7
-same-length-7 c = omega (arith, c.before.before.before.before.before.before.before.before.before.before.before.s2.given, (opened-page (passed c)).before.before.s.given)
+same-length-7 : tie.Need-shape_of-s
+same-length-7 c = omega (arith, c.before.before.before.before.before.before.before.before.before.s-2-1.given, (opened-page (passed c)).before.before.s-1.given)
 
-same-length-8 : tie.Need-same-length-8
-same-length-8 c = omega (arith, c.before.before.before.before.before.before.before.before.before.d2.given, (opened-page (passed c)).d.given)
+same-length-8 : tie.Need-shape_of-d
+same-length-8 c = omega (arith, c.before.before.before.before.before.before.before.d-2-1.given, (opened-page (passed c)).d-1.given)
 
-returns-2 : tie.Need-returns-2
+returns-2 : tie.Need-returns
 returns-2 c =
     let w = c.before in
-    let r = ran w.before in
+    let r = w.before.before.before.before.before.before.before.before.before.before.before in
     let o = opening r.before.before.before.before.before.before.before in
     let b = start o in
     let a = b.args in
     let code = code_by32 a.code a.positions.now in (
       rw c.ended.ensures
-          (run_decoded code (a.result.now ++ a.s.now) b.pre.0.opens.usable b.pre.0.opens.whole
-          a.thresholds.now _ _ (r.run.ensures.0 ∙ from-opened r) _ o.open-state.ensures.1 w.state-weight.ensures),
-      (λ n. r.run.ensures.1.0),
+          (run_decoded code (a.res.now ++ a.s.now) b.requires.0.opens.usable b.requires.0.opens.whole
+          a.thresholds.now _ _ (r.run-ran.ensures.0 ∙ from-opened r) _ o.open_state-start.ensures.1 w.state_weight.ensures),
+      (λ n. r.run-ran.ensures.1.0),
     )
 
-pub decode-state-spec : {M : Type 1} → statement M
-decode-state-spec =
+pub decode_state_spec : {M : Type 1} → statement M
+decode_state_spec =
     tie.close
     (tie.spec
     open-state-requires

@@ -5,19 +5,19 @@ use Rattle.correction.specs.Decoded.{weights_small}
 use Rattle.correction32.proofs.state_weight.Statement.{statement}
 use Rattle.correction32.proofs.state_weight.Tie as tie
 
-weight-of-requires : tie.Need-weight-of-requires
+weight-of-requires : tie.Need-weight_of-requires
 weight-of-requires c κs = search rules
 
-weight-of-requires-2 : tie.Need-weight-of-requires-2
+weight-of-requires-2 : tie.Need-weight_of-requires-2
 weight-of-requires-2 c κs = search rules
 
-add-result : tie.Need-overflow-add-result
+add-result : tie.Need-overflow_add-result
 add-result c =
     let b = c.before.before.before.before in
-    omega (arith, c.before.weight-of.ensures, c.weight-of2.ensures, weights_small b.args.d.now b.args.s.now b.requires.0 b.requires.1)
+    omega (arith, c.before.weight_of.ensures, c.weight_of-2.ensures, weights_small b.args.d.now b.args.s.now b.requires.0 b.requires.1)
 
 returns : tie.Need-returns
 returns c = search rules
 
-pub state-weight-spec : {M : Type 1} → statement M
-state-weight-spec = tie.close (tie.spec weight-of-requires weight-of-requires-2 add-result returns)
+pub state_weight_spec : {M : Type 1} → statement M
+state_weight_spec = tie.close (tie.spec weight-of-requires weight-of-requires-2 add-result returns)

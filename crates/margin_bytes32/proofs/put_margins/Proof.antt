@@ -16,39 +16,39 @@ use Rattle.margin_bytes32.proofs.put_margins.Statement.{statement}
 use Rattle.margin_bytes32.proofs.put_margins.Tie as tie
 
 -- the start, from where the distance is tested
-abbrev start : tie.After-slice-known2 → tie.Start
+abbrev start : tie.After-slice_known-2-1 → tie.Start
 start c = c.before.before.before.before.before.before
 
-checks-each-requires : tie.Need-checks-each-requires
+checks-each-requires : tie.Need-checks_each-each-requires
 checks-each-requires c κs = (start c.before).requires.0.checks.table.sizes.b_low
 
-add-write-firm : tie.Need-overflow-add-write-firm
-add-write-firm c = omega (arith, c.checks-each.ensures, (start c.before.before).requires.0.checks.table.sizes.J-high)
+add-write-firm : tie.Need-overflow_add-each
+add-write-firm c = omega (arith, c.checks_each-each.ensures, (start c.before.before).requires.0.checks.table.sizes.J-high)
 
-cast-write-firm : tie.Need-overflow-cast-write-firm
-cast-write-firm c = omega (arith, c.checks-each.ensures, (start c.before.before).requires.0.checks.table.sizes.J-high)
+cast-write-firm : tie.Need-overflow_cast-each
+cast-write-firm c = omega (arith, c.checks_each-each.ensures, (start c.before.before).requires.0.checks.table.sizes.J-high)
 
-write-firm-requires : tie.Need-write-firm-requires
+write-firm-requires : tie.Need-write_firm-requires
 write-firm-requires c κs =
     let p = (start c.before.before.before).requires in
     let z = p.0.checks.table.sizes in
     let e = p.0.len_difference in
-    (omega (arith, c.before.checks-each.ensures, z.J-high), omega (arith, e, z.data-high), p.1 ∙ ap (λ (m : ℕ). 4 * m) (sym e))
+    (omega (arith, c.before.checks_each-each.ensures, z.J-high), omega (arith, e, z.data-high), p.1 ∙ ap (λ (m : ℕ). 4 * m) (sym e))
 
-slice-aggregate-write-margins : tie.Need-slice-aggregate-write-margins
-slice-aggregate-write-margins c = let l = (start c.before.before).requires.0 in sym (length-take-le _ _ (omega (arith, l.len_difference, l.room)))
+slice-aggregate-write-margins : tie.Need-slice_bounds-write_margins-end
+slice-aggregate-write-margins c = let l = (start c.before).requires.0 in sym (length-take-le _ _ (omega (arith, l.len_difference, l.room)))
 
-write-margins-requires : tie.Need-write-margins-requires
+write-margins-requires : tie.Need-write_margins-requires
 write-margins-requires c κs =
-    let e = c.before.before.before in
+    let e = c.before.before in
     let b = start e.before in
-    let l = b.pre.0 in
-    (l.checks, ap (λ (m : ℕ). take m b.args.zeros.now) l.len_difference ∙ l.counted e.if1.false, l.len_difference, b.pre.1, b.pre.2)
+    let l = b.requires.0 in
+    (l.checks, ap (λ (m : ℕ). take m b.args.zeros.now) l.len_difference ∙ l.counted e.if-end-eq0.false, l.len_difference, b.requires.1, b.requires.2)
 
-same_length : tie.Need-same-length
+same_length : tie.Need-shape_of-out-then-end-eq0
 same_length c = search rules
 
-returns : tie.Need-returns
+returns : tie.Need-returns-then-end-eq0
 unfolding state_weight
 returns c r =
     let w = c.before.before in
@@ -56,21 +56,21 @@ returns c r =
     let t = k.before in
     let b = start t.before in
     let a = b.args in
-    w.write-firm.ensures ∙ ap (λ (m : ℕ). margin_bytes (map (λ j. pos (k.checks-each.result + 1) -ℤ pos 0) (tabulate m (λ j. j)))) b.pre.0.len_difference
-    ∙ ap margin_bytes (margins_firm (code_by32 a.code a.positions.now) b.pre.0.checks.table (state_by r a.s.now a.d.now) _ (ap (λ (m : ℕ). m + 1) k.checks-each.ensures)
-    (sym b.pre.0.weighed ∙ t.if1.true))
+    w.write_firm.ensures ∙ ap (λ (m : ℕ). margin_bytes (map (λ j. pos (k.checks_each-each.result + 1) -ℤ pos 0) (tabulate m (λ j. j)))) b.requires.0.len_difference
+    ∙ ap margin_bytes (margins_firm (code_by32 a.code a.positions.now) b.requires.0.checks.table (state_by r a.s.now a.d.now) _ (ap (λ (m : ℕ). m + 1) k.checks_each-each.ensures)
+    (sym b.requires.0.weighed ∙ t.if-end-eq0.true))
 
-same-length-2 : tie.Need-same-length-2
+same-length-2 : tie.Need-shape_of-marks
 same-length-2 c = search rules
 
-same-length-3 : tie.Need-same-length-3
+same-length-3 : tie.Need-shape_of-out-else-end-eq0
 same-length-3 c = search rules
 
-returns-2 : tie.Need-returns-2
-returns-2 c r = c.before.before.before.before.write-margins.ensures r
+returns-2 : tie.Need-returns-else-end-eq0
+returns-2 c r = c.before.before.before.before.write_margins.ensures r
 
-pub put-margins-spec : {M : Type 1} → statement M
-put-margins-spec =
+pub put_margins_spec : {M : Type 1} → statement M
+put_margins_spec =
     tie.close
     (tie.spec
     checks-each-requires

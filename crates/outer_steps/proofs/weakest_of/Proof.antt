@@ -59,10 +59,10 @@ loop-again c =
     let l = i.before.loop-j in
     let v = read_back _ c.before.reliability_at-r.type_inv ∙ c.before.reliability_at-r.ensures in
     elim c.if-r-least.branch [
-      | then-r-least w ↦ subst (λ (n : ℕ). LeastTo r a.first a.last (l.j + 1) n c.if-r-least.least) (sym w.best-is)
+      | then-r-least w ↦ subst (λ (n : ℕ). LeastTo r a.first a.last (l.j + 1) n (to_z w32 c.if-r-least.least-bits)) (sym w.best-is)
           (subst (λ (m : ℤ). LeastTo r a.first a.last (l.j + 1) l.j m) (sym w.least-is)
           (least_less r a.first a.last l.j l.best _ _ l.invariant i.loop-j-test.true v w.if-r-least.true))
-      | else-r-least w ↦ subst (λ (n : ℕ). LeastTo r a.first a.last (l.j + 1) n c.if-r-least.least) (sym w.best-is)
+      | else-r-least w ↦ subst (λ (n : ℕ). LeastTo r a.first a.last (l.j + 1) n (to_z w32 c.if-r-least.least-bits)) (sym w.best-is)
           (subst (λ (m : ℤ). LeastTo r a.first a.last (l.j + 1) l.best m) (sym w.least-is)
           (least_same r a.first a.last l.j l.best _ _ l.invariant i.loop-j-test.true v w.if-r-least.false))
     ]
