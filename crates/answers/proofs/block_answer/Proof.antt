@@ -1,6 +1,6 @@
 -- `block_answer`: blocks of less than 2 symbols are refused; of others, whether they make up the data decides.
 use borrow.Author.Rules.{rules}
-use borrow.Author.Tests.{lt-leb, le-leb, not-true, not-false}
+use borrow.Author.Tests.{lt-leb, le-leb}
 use mathlib.Core.Path.{◌≡◌, refl, ap, sym, ◌∙◌}
 use mathlib.Core.Bool.{◌&&◌}
 use Prim.Native.Nat.{ℕ, ◌*◌, ◌%◌}

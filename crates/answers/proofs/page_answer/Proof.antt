@@ -1,6 +1,5 @@
 -- `page_answer` walks the list of tests: the table's first, then 6 and 7.
 use borrow.Author.Rules.{rules}
-use borrow.Author.Tests.{not-true, not-false}
 use mathlib.Core.Path.{sym, ◌∙◌}
 use native.Mathlib.Omega.{arith}
 use Rattle.theory.specs.Answers.{refused_by, passed_by, nothing_applies, table_usable, page_refused, page_passed}

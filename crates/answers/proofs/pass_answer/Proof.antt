@@ -1,6 +1,5 @@
 -- `pass_answer` walks the list of tests: those of the page with the result for input, then 7 of S and of D, then 9.
 use borrow.Author.Rules.{rules}
-use borrow.Author.Tests.{not-true, not-false}
 use mathlib.Core.Path.{◌≡◌, sym, ◌∙◌}
 use native.Mathlib.Omega.{arith}
 use Rattle.model.specs.Calls.{first_that_applies, page_tests}

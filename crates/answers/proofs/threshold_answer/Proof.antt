@@ -1,6 +1,5 @@
 -- `threshold_answer`: a return names the tests passed on the way to it, 8 before 9.
 use borrow.Author.Rules.{rules}
-use borrow.Author.Tests.{not-true, not-false}
 use mathlib.Core.Path.{sym, ◌∙◌}
 use Rattle.model.specs.Calls.{threshold_tests}
 use Rattle.theory.specs.Answers.{refused_by, passed_by, nothing_applies}

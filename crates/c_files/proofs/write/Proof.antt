@@ -4,7 +4,7 @@ use Prim.Native.Nat.{◌+◌, ◌/◌}
 use native.Mathlib.Omega.{arith}
 use lib.ListN.{length}
 use lib.Seq.{length-take-le}
-use borrow.Author.Tests.{not-true, not-false, eqb-true, eqb-false, leb-true, leb-false}
+use borrow.Author.Tests.{eqb-true, eqb-false, leb-true, leb-false}
 use Rattle.model.specs.Bytes.{symbols_of}
 use Rattle.model.specs.Files.{contents_end, total}
 use Rattle.c_files.specs.Lists.{fit_facts, lengths_counted, numbers_read, write_unfit, write_disagree, numbers_count, write_many, write_refused, write-size, write_done}

@@ -3,7 +3,7 @@ use mathlib.Core.Path.{sym, ◌∙◌}
 use Prim.Native.Nat.{◌+◌}
 use native.Mathlib.Omega.{arith}
 use lib.ListN.{length}
-use borrow.Author.Tests.{not-true, not-false, eqb-true, eqb-false, leb-true, leb-false}
+use borrow.Author.Tests.{eqb-true, eqb-false, leb-true, leb-false}
 use Rattle.model.specs.Files.{contents_end, listing, total}
 use Rattle.file_lists.specs.Steps.{Agrees, Limits, write_6, write_13, write_14, write_15, write_0}
 use borrow.Author.Rules.{rules}

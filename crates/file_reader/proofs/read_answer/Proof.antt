@@ -2,7 +2,6 @@
 use mathlib.Core.Path.{◌≡◌, sym, ap, ◌∙◌}
 use Prim.Native.Nat.{ℕ}
 use native.Mathlib.Omega.{arith}
-use borrow.Author.Tests.{not-true, not-false}
 use lib.ListN.{length}
 use Rattle.model.specs.Files.{count_of, entries_from, entries_of, bodies_in, sizes_of, total, symbols_fit}
 use Rattle.file_reader.specs.Turns.{Whole, file_end, end_known, end_some, symbols_known, answer_13, answer_14_entries, answer_14_place, answer-15-end, answer-15-symbols, answer-0}

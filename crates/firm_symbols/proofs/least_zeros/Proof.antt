@@ -1,9 +1,8 @@
 -- `least_zeros`: the number is at most the zeros of each of the first i.
-use borrow.Author.Rules.{rules}
 use Prim.Native.Nat.{ℕ, ◌-◌, ◌<◌, ◌≤◌}
 use native.Mathlib.Decide.{ℕ_discrete}
 use native.Mathlib.Omega.{arith}
-use lib.ListN.{length, get_or}
+use lib.ListN.{length}
 use Rattle.firm_symbols.specs.Phases.{zeros_at}
 use Rattle.firm_symbols.proofs.least_zeros.Statement.{statement}
 use Rattle.firm_symbols.proofs.least_zeros.Tie as tie

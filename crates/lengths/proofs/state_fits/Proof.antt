@@ -1,6 +1,6 @@
 -- `state_fits` is its conditions in order, each where those before it hold.
 use borrow.Author.Rules.{rules}
-use borrow.Author.Tests.{eq-eqb, ne_eqb, not-true, not-false}
+use borrow.Author.Tests.{eq-eqb, ne_eqb}
 use Rattle.lengths.proofs.state_fits.Statement.{statement}
 use Rattle.lengths.proofs.state_fits.Tie as tie
 

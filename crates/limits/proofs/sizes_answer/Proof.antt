@@ -1,6 +1,5 @@
 -- `sizes_answer` walks tests 2, 10 and 3: a return names the tests passed on the way to it.
 use borrow.Author.Rules.{rules}
-use borrow.Author.Tests.{not-true, not-false}
 use mathlib.Core.Path.{sym, ◌∙◌}
 use mathlib.Core.List.{[]}
 use Rattle.theory.specs.Answers.{and_true, within_facts, refused_by, passed_by, nothing_applies}

@@ -7,7 +7,7 @@ use lib.ListN.{length}
 use Rattle.model.specs.Bytes.{twos}
 use Rattle.model.specs.Code.{Code}
 use Rattle.params.specs.Codes.{code_by}
-use Rattle.checks.specs.Places.{InBranch, branch_of, branch_next, branch_some, Placed, in_placed, in_later, in_end, Found, found}
+use Rattle.checks.specs.Places.{branch_of, branch_next, branch_some, Placed, in_placed, in_later, in_end, Found, found}
 use Rattle.checks.specs.declared.Place.{Place}
 use Rattle.ones.specs.Pages.{bits_at}
 use Rattle.zeros.specs.Counts.{length_zero_counts}

@@ -2,7 +2,6 @@
 use mathlib.Core.Path.{◌≡◌, subst}
 use Prim.Native.Nat.{ℕ, ◌-◌}
 use native.Mathlib.Omega.{arith}
-use borrow.Author.Rules.{rules}
 use Rattle.open_symbols.specs.Settled.{FirstOpen, open_none, open-part, open_past}
 use Rattle.open_symbols.proofs.first_open.Statement.{statement}
 use Rattle.open_symbols.proofs.first_open.Tie as tie

@@ -6,13 +6,13 @@ use native.Mathlib.Omega.{arith}
 use lib.ListN.{length, get_or, drop, drop_of_length-le}
 use Rattle.model.specs.Code.{Code, data_count}
 use Rattle.params.specs.Codes.{code_by}
-use Rattle.checks.specs.Places.{InBranch, AtBranch, branch_first, branch_some, branch_next, branch_over, Placed, same_end, in_placed, in_along, in_later, in_end, in_onward, onward_less, onward_fits}
+use Rattle.checks.specs.Places.{InBranch, AtBranch, branch_first, branch_next, branch_over, Placed, same_end, in_placed, in_along, in_later, in_end, in_onward, onward_less, onward_fits}
 use Rattle.checks.specs.declared.Place.{Place}
 use Rattle.theory.specs.Counters.{Clear}
 use Rattle.zeros.specs.Counts.{zero_counts, length_zero_counts}
 use Rattle.visits.specs.Progress.{Progress, progress, visit_of, Ready}
 use Rattle.visits.specs.Settled.{settled_left}
-use Rattle.passes.specs.Runs.{visits, visits_suc, visits_from, from_none, from_suc, from_skip, visits-from, passes_from, run_of, Kept, kept_by, passes_nil, pass_idle, pass_changed}
+use Rattle.passes.specs.Runs.{visits, visits_from, from_none, from_suc, from_skip, visits-from, passes_from, run_of, Kept, kept_by, passes_nil, pass_idle, pass_changed}
 use Rattle.passes.proofs.run_counted.Statement.{statement}
 use Rattle.passes.proofs.run_counted.Tie as tie
 use Rattle.passes.proofs.run_counted.Lts.{then-n-p, else-n-p+else-loop-place-test+then-tally-before+then-n-p-2}

@@ -1,6 +1,5 @@
 -- `shape_answer` walks the list of tests: the sizes first, then 4 and 5.
 use borrow.Author.Rules.{rules}
-use borrow.Author.Tests.{not-true, not-false}
 use mathlib.Core.Path.{◌≡◌, sym, ◌∙◌}
 use Rattle.model.specs.Calls.{first_that_applies}
 use Rattle.params.specs.Codes.{code_by}

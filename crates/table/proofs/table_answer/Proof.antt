@@ -1,6 +1,5 @@
 -- `table_answer`: test 1, and then those of the shape.
 use borrow.Author.Rules.{rules}
-use borrow.Author.Tests.{not-true, not-false}
 use mathlib.Core.Path.{sym, ◌∙◌}
 use Rattle.model.specs.Calls.{table_answer, table_tests, size_tests}
 use Rattle.theory.specs.Answers.{refused_by, passed_by}

@@ -1,7 +1,6 @@
 -- `full_vote`: on bit pages the ones decide; else the quick test settles that nothing is subtracted, or the part of the buffer that is voted
 -- on holds the estimates.
 use borrow.Author.Rules.{rules}
-use borrow.Author.Tests.{not-true}
 use mathlib.Core.Path.{refl, sym, ◌∙◌, ap, subst}
 use mathlib.Core.Bool.{Bool, not}
 use mathlib.Core.List.{List, ◌++◌}

@@ -1,6 +1,5 @@
 -- `qmtd_bench_votes_counted`: the counters and the length of a list are tested first, then the votes are added.
 use Rattle.std.proofs.Common.{sym, refl, ◌∙◌, rules}
-use borrow.Author.Tests.{not-true, not-false}
 use Rattle.theory.specs.Answers.{within_facts}
 use Rattle.theory.specs.Counters.{fit_zero}
 use Rattle.votes.specs.Checksum.{checksum}

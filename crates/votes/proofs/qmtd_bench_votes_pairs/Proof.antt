@@ -1,6 +1,5 @@
 -- `qmtd_bench_votes_pairs`: the length of a list is tested first, then the votes are added.
 use Rattle.std.proofs.Common.{sym, refl, ◌∙◌, rules}
-use borrow.Author.Tests.{not-true, not-false}
 use Rattle.theory.specs.Answers.{within_facts}
 use Rattle.votes.specs.Checksum.{checksum}
 use Rattle.votes.proofs.qmtd_bench_votes_pairs.Statement.{statement}

@@ -1,6 +1,5 @@
 -- `decided`: a quick test, the leader's count, and then that of the other values, settle what is subtracted.
 use borrow.Author.Rules.{rules}
-use borrow.Author.Tests.{not-true}
 use mathlib.Core.Path.{◌≡◌, ap, ◌∙◌}
 use mathlib.Core.List.{List}
 use Prim.Native.Nat.{ℕ}
