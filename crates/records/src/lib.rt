@@ -71,7 +71,7 @@ pub fn returned(record: &[u8]) -> u32 {
 }
 
 // One string of a record: its length, which of its contents the record gives, and where these start.
-#[derive(Drop)]
+#[derive(Clone, Copy)]
 pub struct Piece {
     pub len: usize,
     pub gives: u32,
@@ -201,7 +201,7 @@ impl Piece {
 }
 
 // The buffers of a page, three strings in a row.
-#[derive(Drop)]
+#[derive(Clone, Copy)]
 pub struct Buffers {
     pub result: Piece,
     pub syndrome: Piece,
@@ -278,7 +278,7 @@ pub fn holding(bytes: &[u8]) -> [u8; MOST]
 }
 
 // The numbers that every call takes, and how many positions its table has.
-#[derive(Drop)]
+#[derive(Clone, Copy)]
 pub struct Code {
     pub q: u32,
     pub k: u32,

@@ -7,53 +7,53 @@ use borrow.Author.Rules.{rules}
 use Rattle.records.proofs.read_positions.Statement.{statement}
 use Rattle.records.proofs.read_positions.Tie as tie
 
-abbrev invariant-loop : tie.invariant-loop
+abbrev invariant-loop : tie.invariant-loop-i
 invariant-loop table positions₀ i₀ positions i = 300 ≡ length positions
 
-abbrev decreases-loop : tie.decreases-loop
+abbrev decreases-loop : tie.decreases-loop-i
 decreases-loop table positions₀ i₀ positions i = 300 - i
 
-loop-holds : tie.Need-loop-init invariant-loop decreases-loop
+loop-holds : tie.Need-loop-i-init invariant-loop decreases-loop
 loop-holds c = search rules
 
-mul-byte-at : tie.Need-overflow-mul-byte-at invariant-loop decreases-loop
+mul-byte-at : tie.Need-overflow_mul-i invariant-loop decreases-loop
 mul-byte-at c = search rules
 
-byte-at-requires : tie.Need-byte-at-requires invariant-loop decreases-loop
+byte-at-requires : tie.Need-byte_at-requires invariant-loop decreases-loop
 byte-at-requires c κs = tt
 
-mul-byte-at-2 : tie.Need-overflow-mul-byte-at-2 invariant-loop decreases-loop
+mul-byte-at-2 : tie.Need-overflow_mul-i-in-loop-i invariant-loop decreases-loop
 mul-byte-at-2 c = search rules
 
-add-byte-at : tie.Need-overflow-add-byte-at invariant-loop decreases-loop
+add-byte-at : tie.Need-overflow_add-i invariant-loop decreases-loop
 add-byte-at c = search rules
 
-byte-at-requires-2 : tie.Need-byte-at-requires-2 invariant-loop decreases-loop
+byte-at-requires-2 : tie.Need-byte_at-requires-in-loop-i invariant-loop decreases-loop
 byte-at-requires-2 c κs = tt
 
-position-of-requires : tie.Need-position-of-requires invariant-loop decreases-loop
+position-of-requires : tie.Need-position_of-requires invariant-loop decreases-loop
 position-of-requires c κs = tt
 
-mul-positions : tie.Need-overflow-mul-positions invariant-loop decreases-loop
+mul-positions : tie.Need-offset_bounds-positions-i invariant-loop decreases-loop
 mul-positions c = search rules
 
-array-write-positions : tie.Need-array-write-positions invariant-loop decreases-loop
+array-write-positions : tie.Need-bounds-positions-i invariant-loop decreases-loop
 array-write-positions c = search rules
 
-add-i : tie.Need-overflow-add-i invariant-loop decreases-loop
+add-i : tie.Need-overflow_add-i-in-loop-i invariant-loop decreases-loop
 add-i c = search rules
 
-loop-less : tie.Need-loop-smaller invariant-loop decreases-loop
+loop-less : tie.Need-loop-i-smaller invariant-loop decreases-loop
 loop-less c = search rules
 
-loop-again : tie.Need-loop-preserved invariant-loop decreases-loop
+loop-again : tie.Need-loop-i-preserved invariant-loop decreases-loop
 loop-again c = simp length-set (omega arith)
 
 returns : tie.Need-returns invariant-loop decreases-loop
 returns c = search rules
 
-pub read-positions-spec : {M : Type 1} → statement M
-read-positions-spec =
+pub read_positions_spec : {M : Type 1} → statement M
+read_positions_spec =
     tie.close
     (tie.spec
     invariant-loop

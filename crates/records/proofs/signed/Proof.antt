@@ -18,26 +18,26 @@ below : (n : ℕ) → negsuc 0 -ℤ pos n ≡ negsuc n
 below zero = refl
 below (suc n) = ap (λ (m : ℕ). negsuc (suc m)) (omega arith)
 
-cast-result : tie.Need-overflow-cast-result
+cast-result : tie.Need-overflow_cast-result
 cast-result c = search rules
 
-returns : tie.Need-returns
+returns : tie.Need-returns-then-bits-lt2147483648
 returns c = search rules
 
-sub-result : tie.Need-overflow-sub-result
+sub-result : tie.Need-overflow_sub-result
 sub-result c = search rules
 
-cast-result-2 : tie.Need-overflow-cast-result-2
+cast-result-2 : tie.Need-overflow_cast-result-2
 cast-result-2 c = search rules
 
-sub-result-2 : tie.Need-overflow-sub-result-2
+sub-result-2 : tie.Need-overflow_sub-result-2
 sub-result-2 c =
     let n : ℕ = 4294967295 - c.before.args.bits in
     let small : n < 2 ^ 31 = omega arith in
     rw (read n small, below n) (record { sfits = small })
 
-returns-2 : tie.Need-returns-2
+returns-2 : tie.Need-returns
 returns-2 c = search rules
 
-pub signed-spec : {M : Type 1} → statement M
-signed-spec = tie.close (tie.spec cast-result returns sub-result cast-result-2 sub-result-2 returns-2)
+pub signed_spec : {M : Type 1} → statement M
+signed_spec = tie.close (tie.spec cast-result returns sub-result cast-result-2 sub-result-2 returns-2)
