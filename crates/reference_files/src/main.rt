@@ -1,11 +1,13 @@
 // Runs the reference pages in data/pages.bin through the Rattle calls on files of pages, find, part, body and write, and prints for each group
 // how many there are and how many came out wrong.
 #![tactic(auto)]
+
 ghost use Rattle.std.specs.Prelude.{◌≡◌, ◌≤◌, length};
 
 use file_reader::Found;
 use records::{Piece, number_at, returned};
 use runs::Run;
+use std::io;
 
 // The most bytes of a record and of an output here, and the most pages of a list.
 const MOST_RECORD: usize = 204800;
@@ -173,32 +175,34 @@ fn write_is_right(record: &[u8]) -> bool {
     )
 }
 
-fn is_right(record: &[u8]) -> bool {
+fn is_right(rt: &impl Print, record: &[u8]) -> io::Result<bool> {
     let call = records::call_of(record);
     match call {
-        32 => find_is_right(record),
-        33 => write_is_right(record),
-        _ => runs::is_unknown(call),
+        32 => Ok(find_is_right(record)),
+        33 => Ok(write_is_right(record)),
+        _ => runs::is_unknown(rt, call),
     }
 }
 
 // Reads the next record and, where it is a page, runs it.
-fn run_next(run: Run) -> Run {
+fn run_next(rt: &impl Print, run: Run) -> io::Result<Run> {
     let mut memory = [0u8; MOST_RECORD];
-    let next = run.next(&mut memory);
+    let next = run.next(rt, &mut memory)?;
     if next.len == 0 {
-        return next;
+        return Ok(next);
     }
-    next.count(is_right(next.page(&memory)))
+    let right = is_right(rt, next.page(&memory))?;
+    Ok(next.count(right))
 }
 
-// The loop counts its turns down from a number that no file uses up, since nothing says that a file ends.
-fn main() {
-    let mut run = Run::open();
-    let mut turns = u64::MAX;
-    while turns > 0 && !run.ended {
-        run = run_next(run);
-        turns -= 1;
+// The turns are bounded by a number that no file uses up, since nothing says that a file ends.
+fn main(rt: HostRuntime) -> io::Result<()> {
+    let mut run = Run::open(&rt)?;
+    for _ in 0..u64::MAX {
+        if run.ended {
+            break;
+        }
+        run = run_next(&rt, run)?;
     }
-    run.close();
+    run.close(&rt)
 }

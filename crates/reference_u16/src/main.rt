@@ -1,17 +1,19 @@
 // Runs the reference pages in data/pages.bin through the Rattle calls on symbols of two bytes, check_table, encode, syndrome, decode, open,
 // pass and explain, and prints for each group how many there are and how many came out wrong.
 #![tactic(auto)]
+
 ghost use Rattle.std.specs.Prelude.{◌≤◌};
 
 use explainer16::Explained;
 use records::{Buffers, Piece, number_at, returned};
 use runs::{MOST_RECORD, Run};
+use std::io;
 
 // The number of the first of the seven calls.
 const FIRST: u32 = 18;
 
 // The numbers that every call takes, and how many positions its table has.
-#[derive(Drop)]
+#[derive(Clone, Copy)]
 struct Code {
     k: u32,
     b: u32,
@@ -265,47 +267,54 @@ fn explain_is_right(record: &[u8], code: Code, positions: &[u16]) -> bool {
         && answer.is_last(record, 4, 5)
 }
 
-fn call_is_right(record: &[u8], code: Code, positions: &[u16]) -> bool {
+fn call_is_right(
+    rt: &impl Print,
+    record: &[u8],
+    code: Code,
+    positions: &[u16],
+) -> io::Result<bool> {
     let call = records::call_of(record);
     if call < FIRST {
-        return runs::is_unknown(call);
+        return runs::is_unknown(rt, call);
     }
     let which = call - FIRST;
     match which {
-        0 => check_table_is_right(record, code, positions),
-        1 | 2 => encode_or_syndrome_is_right(record, code, positions),
-        3 => decode_is_right(record, code, positions),
-        4 => open_is_right(record, code, positions),
-        5 => pass_is_right(record, code, positions),
-        6 => explain_is_right(record, code, positions),
-        _ => runs::is_unknown(call),
+        0 => Ok(check_table_is_right(record, code, positions)),
+        1 | 2 => Ok(encode_or_syndrome_is_right(record, code, positions)),
+        3 => Ok(decode_is_right(record, code, positions)),
+        4 => Ok(open_is_right(record, code, positions)),
+        5 => Ok(pass_is_right(record, code, positions)),
+        6 => Ok(explain_is_right(record, code, positions)),
+        _ => runs::is_unknown(rt, call),
     }
 }
 
-fn is_right(record: &[u8]) -> bool {
+fn is_right(rt: &impl Print, record: &[u8]) -> io::Result<bool> {
     let code = Code::of(record);
     let positions = records::positions_of(record);
     let n = code.n;
-    call_is_right(record, code, &positions[0..n])
+    call_is_right(rt, record, code, &positions[0..n])
 }
 
 // Reads the next record and, where it is a page, runs it.
-fn run_next(run: Run) -> Run {
+fn run_next(rt: &impl Print, run: Run) -> io::Result<Run> {
     let mut memory = [0u8; MOST_RECORD];
-    let next = run.next(&mut memory);
+    let next = run.next(rt, &mut memory)?;
     if next.len == 0 {
-        return next;
+        return Ok(next);
     }
-    next.count(is_right(next.page(&memory)))
+    let right = is_right(rt, next.page(&memory))?;
+    Ok(next.count(right))
 }
 
-// The loop counts its turns down from a number that no file uses up, since nothing says that a file ends.
-fn main() {
-    let mut run = Run::open();
-    let mut turns = u64::MAX;
-    while turns > 0 && !run.ended {
-        run = run_next(run);
-        turns -= 1;
+// The turns are bounded by a number that no file uses up, since nothing says that a file ends.
+fn main(rt: HostRuntime) -> io::Result<()> {
+    let mut run = Run::open(&rt)?;
+    for _ in 0..u64::MAX {
+        if run.ended {
+            break;
+        }
+        run = run_next(&rt, run)?;
     }
-    run.close();
+    run.close(&rt)
 }
