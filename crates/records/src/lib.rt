@@ -1,5 +1,6 @@
 // The records of reference pages: their numbers and strings, and the memory that is lent to a call. tests/reference/README.md has the format.
 #![tactic(auto)]
+
 ghost use Rattle.std.specs.Prelude.{◌≡◌, ◌≤◌, length};
 
 use tally::Tally;

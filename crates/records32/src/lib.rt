@@ -1,6 +1,7 @@
 // Reference pages on symbols of four bytes: the symbols of a record's strings, the memory that is lent to a call, and whether that is as it
 // must be after it.
 #![tactic(auto)]
+
 ghost use Rattle.std.specs.Prelude.{◌≡◌, ◌≤◌, length};
 
 use records::{Buffers, Piece};

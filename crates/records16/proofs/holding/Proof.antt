@@ -7,41 +7,41 @@ use borrow.Author.Rules.{rules}
 use Rattle.records16.proofs.holding.Statement.{statement}
 use Rattle.records16.proofs.holding.Tie as tie
 
-abbrev invariant-loop : tie.invariant-loop
+abbrev invariant-loop : tie.invariant-loop-i
 invariant-loop bytes lent₀ i₀ lent i = 2100 ≡ length lent
 
-abbrev decreases-loop : tie.decreases-loop
+abbrev decreases-loop : tie.decreases-loop-i
 decreases-loop bytes lent₀ i₀ lent i = 2100 - i
 
-loop-holds : tie.Need-loop-init invariant-loop decreases-loop
+loop-holds : tie.Need-loop-i-init invariant-loop decreases-loop
 loop-holds c = search rules
 
-mul-symbol-at : tie.Need-overflow-mul-symbol-at invariant-loop decreases-loop
+mul-symbol-at : tie.Need-overflow_mul-i invariant-loop decreases-loop
 mul-symbol-at c = search rules
 
-symbol-at-requires : tie.Need-symbol-at-requires invariant-loop decreases-loop
+symbol-at-requires : tie.Need-symbol_at-requires invariant-loop decreases-loop
 symbol-at-requires c κs = tt
 
-mul-lent : tie.Need-overflow-mul-lent invariant-loop decreases-loop
+mul-lent : tie.Need-offset_bounds-lent-i invariant-loop decreases-loop
 mul-lent c = search rules
 
-array-write-lent : tie.Need-array-write-lent invariant-loop decreases-loop
+array-write-lent : tie.Need-bounds-lent-i invariant-loop decreases-loop
 array-write-lent c = search rules
 
-add-i : tie.Need-overflow-add-i invariant-loop decreases-loop
+add-i : tie.Need-overflow_add-i invariant-loop decreases-loop
 add-i c = search rules
 
-loop-less : tie.Need-loop-smaller invariant-loop decreases-loop
+loop-less : tie.Need-loop-i-smaller invariant-loop decreases-loop
 loop-less c = search rules
 
-loop-again : tie.Need-loop-preserved invariant-loop decreases-loop
+loop-again : tie.Need-loop-i-preserved invariant-loop decreases-loop
 loop-again c = simp length-set (omega arith)
 
 returns : tie.Need-returns invariant-loop decreases-loop
 returns c = search rules
 
-pub holding-spec : {M : Type 1} → statement M
-holding-spec =
+pub holding_spec : {M : Type 1} → statement M
+holding_spec =
     tie.close
     (tie.spec
     invariant-loop

@@ -12,49 +12,49 @@ use Rattle.theory.specs.WideBytes.{written_length}
 use Rattle.records16.proofs.is_due.Statement.{statement}
 use Rattle.records16.proofs.is_due.Tie as tie
 
-returns : tie.Need-returns
+returns : tie.Need-returns-then-n-gt-MOST
 returns c = search rules
 
-mul-end : tie.Need-overflow-mul-end
+mul-end : tie.Need-overflow_mul-end
 mul-end c = search rules
 
-array-borrow-prefix-bytes : tie.Need-array-borrow-prefix-bytes
+array-borrow-prefix-bytes : tie.Need-slice_bounds-bytes-end
 array-borrow-prefix-bytes c = search rules
 
 -- the part that the bytes are written to has their length
 front : (n : ℕ) → n ≤ 2100 → length {A = ℕ} (take (symbol_size wide16 * n) (replicate 8400 0)) ≡ symbol_size wide16 * n
 front n few = length-take-le (symbol_size wide16 * n) (replicate {A = ℕ} 8400 0) (omega (arith, length-replicate {A = ℕ} 8400 0))
 
-slice-aggregate-write-symbols : tie.Need-slice-aggregate-write-symbols
-slice-aggregate-write-symbols c = sym (front _ (omega (arith, c.before.if1.false)))
+slice-aggregate-write-symbols : tie.Need-slice_bounds-write_symbols-end
+slice-aggregate-write-symbols c = sym (front _ (omega (arith, c.before.if-n-gt-MOST.false)))
 
-write-symbols-requires : tie.Need-write-symbols-requires
+write-symbols-requires : tie.Need-write_symbols-requires
 write-symbols-requires c κs =
-    let few = c.before.if1.false in
+    let few = c.before.if-n-gt-MOST.false in
     let n : ℕ = length c.before.before.before.before.args.lent.now in
     (front n (omega (arith, few)) ∙ (let e : symbol_size wide16 * n ≡ n * symbol_size wide16 = omega arith in e), omega (arith, few))
 
 -- and has it after that
-room : (c : tie.After-bytes2) → let n = length c.before.before.before.before.before.before.args.lent.now in (xs : List ℕ) → symbol_size wide16 * n ≤ length (c.before.write-symbols.new.0 ++ xs)
+room : (c : tie.After-bytes-2-1) → let n = length c.before.before.before.before.before.before.args.lent.now in (xs : List ℕ) → symbol_size wide16 * n ≤ length (c.before.write_symbols.new.bytes ++ xs)
 room c xs =
     let w = c.before in
     let a = w.before.before.before.before.before.args in
-    rw (length-append w.write-symbols.new.0 xs) (omega (arith, ap length w.write-symbols.ensures, written_length (symbol_size wide16) (omega arith) a.lent.now))
+    rw (length-append w.write_symbols.new.bytes xs) (omega (arith, ap length w.write_symbols.ensures, written_length (symbol_size wide16) (omega arith) a.lent.now))
 
-array-share-prefix-bytes : tie.Need-array-share-prefix-bytes
+array-share-prefix-bytes : tie.Need-slice_bounds-bytes-end-2
 array-share-prefix-bytes c = room c _
 
-slice-aggregate-is-due : tie.Need-slice-aggregate-is-due
+slice-aggregate-is-due : tie.Need-slice_bounds-is_due-end
 slice-aggregate-is-due c = sym (length-take-le _ _ (room c.before _))
 
-is-due-requires : tie.Need-is-due-requires
+is-due-requires : tie.Need-is_due-requires
 is-due-requires c κs = search rules
 
-returns-2 : tie.Need-returns-2
+returns-2 : tie.Need-returns
 returns-2 c = search rules
 
-pub is-due-spec : {M : Type 1} → statement M
-is-due-spec =
+pub is_due_spec : {M : Type 1} → statement M
+is_due_spec =
     tie.close
     (tie.spec
     returns
