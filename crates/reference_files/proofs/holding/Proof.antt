@@ -7,35 +7,35 @@ use borrow.Author.Rules.{rules}
 use Rattle.reference_files.proofs.holding.Statement.{statement}
 use Rattle.reference_files.proofs.holding.Tie as tie
 
-abbrev invariant-loop : tie.invariant-loop
+abbrev invariant-loop : tie.invariant-loop-i
 invariant-loop bytes output₀ i₀ output i = (i ≤ 66000) × (66000 ≡ length output)
 
-abbrev decreases-loop : tie.decreases-loop
+abbrev decreases-loop : tie.decreases-loop-i
 decreases-loop bytes output₀ i₀ output i = 66000 - i
 
-loop-holds : tie.Need-loop-init invariant-loop decreases-loop
+loop-holds : tie.Need-loop-i-init invariant-loop decreases-loop
 loop-holds c = search rules
 
-byte-at-requires : tie.Need-byte-at-requires invariant-loop decreases-loop
+byte-at-requires : tie.Need-byte_at-requires invariant-loop decreases-loop
 byte-at-requires c κs = search rules
 
-array-write-output : tie.Need-array-write-output invariant-loop decreases-loop
+array-write-output : tie.Need-bounds-output-i invariant-loop decreases-loop
 array-write-output c = search rules
 
-add-i : tie.Need-overflow-add-i invariant-loop decreases-loop
+add-i : tie.Need-overflow_add-i invariant-loop decreases-loop
 add-i c = search rules
 
-loop-less : tie.Need-loop-smaller invariant-loop decreases-loop
+loop-less : tie.Need-loop-i-smaller invariant-loop decreases-loop
 loop-less c = search rules
 
-loop-again : tie.Need-loop-preserved invariant-loop decreases-loop
+loop-again : tie.Need-loop-i-preserved invariant-loop decreases-loop
 loop-again c = simp length-set (omega arith, omega arith)
 
 returns : tie.Need-returns invariant-loop decreases-loop
 returns c = search rules
 
-pub holding-spec : {M : Type 1} → statement M
-holding-spec =
+pub holding_spec : {M : Type 1} → statement M
+holding_spec =
     tie.close
     (tie.spec
     invariant-loop

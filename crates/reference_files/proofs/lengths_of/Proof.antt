@@ -7,41 +7,41 @@ use borrow.Author.Rules.{rules}
 use Rattle.reference_files.proofs.lengths_of.Statement.{statement}
 use Rattle.reference_files.proofs.lengths_of.Tie as tie
 
-abbrev invariant-loop : tie.invariant-loop
+abbrev invariant-loop : tie.invariant-loop-i
 invariant-loop bytes lengths₀ i₀ lengths i = (i ≤ 200) × (200 ≡ length lengths)
 
-abbrev decreases-loop : tie.decreases-loop
+abbrev decreases-loop : tie.decreases-loop-i
 decreases-loop bytes lengths₀ i₀ lengths i = 200 - i
 
-loop-holds : tie.Need-loop-init invariant-loop decreases-loop
+loop-holds : tie.Need-loop-i-init invariant-loop decreases-loop
 loop-holds c = search rules
 
-mul-number-at : tie.Need-overflow-mul-number-at invariant-loop decreases-loop
+mul-number-at : tie.Need-overflow_mul-i invariant-loop decreases-loop
 mul-number-at c = search rules
 
-number-at-requires : tie.Need-number-at-requires invariant-loop decreases-loop
+number-at-requires : tie.Need-number_at-requires invariant-loop decreases-loop
 number-at-requires c κs = search rules
 
-mul-lengths : tie.Need-overflow-mul-lengths invariant-loop decreases-loop
+mul-lengths : tie.Need-offset_bounds-lengths-i invariant-loop decreases-loop
 mul-lengths c = search rules
 
-array-write-lengths : tie.Need-array-write-lengths invariant-loop decreases-loop
+array-write-lengths : tie.Need-bounds-lengths-i invariant-loop decreases-loop
 array-write-lengths c = search rules
 
-add-i : tie.Need-overflow-add-i invariant-loop decreases-loop
+add-i : tie.Need-overflow_add-i invariant-loop decreases-loop
 add-i c = search rules
 
-loop-less : tie.Need-loop-smaller invariant-loop decreases-loop
+loop-less : tie.Need-loop-i-smaller invariant-loop decreases-loop
 loop-less c = search rules
 
-loop-again : tie.Need-loop-preserved invariant-loop decreases-loop
+loop-again : tie.Need-loop-i-preserved invariant-loop decreases-loop
 loop-again c = simp length-set (omega arith, omega arith)
 
 returns : tie.Need-returns invariant-loop decreases-loop
 returns c = search rules
 
-pub lengths-of-spec : {M : Type 1} → statement M
-lengths-of-spec =
+pub lengths_of_spec : {M : Type 1} → statement M
+lengths_of_spec =
     tie.close
     (tie.spec
     invariant-loop
