@@ -1,6 +1,6 @@
-# Builds, tries and installs the library. Everything made goes under build/ (and target/, which rt keeps).
+# Builds, tries and installs the library. Everything made goes under build/, and what rt keeps into crates/NAME/out/.
 #
-#   make lib                    build/x86-64/libqmtd.a, proved and compiled by rt
+#   make lib                    build/x86-64/libqmtd.a, proved and compiled by the kit
 #   make lib TARGET=..          build/TARGET/libqmtd.a for another processor, one of targets/list; TARGET_FLAGS=.. adds
 #                               flags for clang, as -Os or -mfloat-abi=hard
 #   make demo                   prove crate by crate, build, and run the charger example
@@ -32,8 +32,8 @@ EXPORTS := $(shell awk '!/^\#/ { print $$1 }' targets/exports)
 HEADERS := $(addprefix include/,$(shell awk '!/^\#/ { print $$2 }' targets/exports | sort -u))
 
 # What the archive is made from: every crate but the test programs, what these share, and the votes that are measured alone.
-SOURCES := $(shell find crates \( -path 'crates/reference*' -o -path crates/records -o -path crates/runs -o -path crates/cases -o -path crates/votes \) -prune -o -type f -print) crates.txt
-VOTES_SOURCES := $(shell find crates/votes -type f)
+SOURCES := $(shell find crates \( -path 'crates/*/out' -o -path 'crates/reference*' -o -path crates/records -o -path crates/runs -o -path crates/cases -o -path crates/votes \) -prune -o -type f -print) crates.txt
+VOTES_SOURCES := $(shell find crates/votes -path crates/votes/out -prune -o -type f -print)
 VERSION := $(shell awk '/define QMTD_VERSION_(MAJOR|MINOR|PATCH) / { v = v dot $$3; dot = "." } END { print v }' include/qmtd.h)
 TARGETS := $(shell awk '!/^\#/ { print $$1 }' targets/list)
 ARCHIVE := build/$(TARGET)/libqmtd.a
@@ -61,35 +61,22 @@ $(ARCHIVE): build/modules/made targets/archive targets/list $(FLAGS)
 endif
 
 # Each export crate as the kit compiles it for x86-64, and its module for other processors; as many at a time as there are
-# processors. rt's account of the proofs goes into build/prove.log, and is shown where it fails.
-build/modules/made: $(SOURCES) targets/module targets/exports
+# processors.
+build/modules/made: build/proved targets/module targets/exports
 	@mkdir -p build/modules
 	@echo "building the objects of the archive .."
-	@$(RT) check $(EXPORTS) >build/prove.log 2>&1 || { cat build/prove.log; exit 1; }
 	@echo $(EXPORTS) | RT=$(RT) xargs -n 1 -P "$$(nproc)" sh -c 'targets/module "$$1" build/modules' module
 	@touch $@
 
-# The export crates and those that they build on, each after those it depends on; the first time this takes half an hour or more.
-prove:
-	@mkdir -p build
-	@set -- $$(awk -F: '{ sub(/#.*/, "") } NF { gsub(/ /, "", $$1); deps[$$1] = $$2 } \
-	                    function add(crate, n, i, on) { \
-	                      if (!(crate in deps) || seen[crate]++) return; \
-	                      n = split(deps[crate], on, " "); \
-	                      for (i = 1; i <= n; i++) add(on[i]); \
-	                      print crate \
-	                    } \
-	                    END { n = split("$(EXPORTS)", crates, " "); for (i = 1; i <= n; i++) add(crates[i]) }' crates.txt); \
-	total=$$#; n=0; \
-	for crate do \
-	  n=$$((n + 1)); echo "[$$n/$$total] proving $$crate .."; \
-	  $(RT) check $$crate >build/prove.log 2>&1 || { cat build/prove.log; exit 1; }; \
-	done
+# All that the archive is made from, proved; the first time this takes half an hour or more. The gate touches this file where rt ci
+# has proved it.
+build/proved: $(SOURCES) targets/exports
+	@RT=$(RT) targets/prove
+	@touch $@
 
 demo: EXAMPLE = charger
 screen branches outer cells files: EXAMPLE = $@
 demo screen branches outer cells files:
-	@$(MAKE) -s -q build/x86-64/libqmtd.a || $(MAKE) -s prove lib
 	@$(MAKE) -s build/$(EXAMPLE)
 	@build/$(EXAMPLE)
 
@@ -130,8 +117,8 @@ votes: build/votes/libvotes.a
 build/votes/libvotes.a: $(SOURCES) $(VOTES_SOURCES)
 	@mkdir -p build/votes
 	@echo "building both votes .."
-	@$(RT) staticlib votes >build/prove.log 2>&1 || { cat build/prove.log; exit 1; }
-	cp target/staticlib/libvotes.a $@
+	@cd crates/votes && $(RT) lib --cpu x86-64 >../../build/prove.log 2>&1 || { cat ../../build/prove.log; exit 1; }
+	cp crates/votes/out/libvotes.a $@
 
 pages:
 	$(PYTHON) tests/reference/make_pages.py
