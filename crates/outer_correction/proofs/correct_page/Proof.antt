@@ -103,7 +103,7 @@ abbrev anew : tie.After-ended → tie.After-zeros-then-steps-ne0-2-1
 anew c = c.before.before.before.before
 
 abbrev cleared : tie.After-ended → tie.After-zeros-then-steps-ne0-1
-cleared c = (anew c).before.before.before.before.before
+cleared c = (anew c).before.before.before.before
 
 abbrev after-steps : tie.After-ended → tie.After-slice_known-then-block-ne1-3-1
 after-steps c = (cleared c).before.before.before.before
