@@ -1,5 +1,6 @@
 // The tests of the calls on symbols of four bytes, walked in order. They look at no symbol: every one is below q.
 #![tactic(auto)]
+
 ghost use Rattle.std.specs.Prelude.{◌≡◌, List, ℕ, ◌*◌, ◌≤◌};
 ghost use Rattle.model.specs.Symbols.{Below};
 ghost use Rattle.model.specs.Decoder.{State};

@@ -1,6 +1,7 @@
 // Decode with a buffer for the zeros lent: the tests and the correction, for every form of the call, and the Rattle form. All decode in
 // blocks: decode in blocks of 1.
 #![tactic(auto)]
+
 ghost use Rattle.std.specs.Prelude.{◌≡◌, true, ◌&&◌, ◌*◌, ◌≤◌, length};
 ghost use Rattle.model.specs.Decoder.{state_by};
 ghost use Rattle.model.specs.Calls.{decode_fits};

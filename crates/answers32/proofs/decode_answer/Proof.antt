@@ -6,26 +6,26 @@ use Rattle.symbols32.specs.Codes.{code_by32}
 use Rattle.answers32.proofs.decode_answer.Statement.{statement}
 use Rattle.answers32.proofs.decode_answer.Tie as tie
 
-page-answer-requires : tie.Need-page-answer-requires
+page-answer-requires : tie.Need-page_answer-number-requires
 page-answer-requires c κs = search rules
 
-returns : tie.Need-returns
+returns : tie.Need-returns-then-number-ne0
 returns c = λ page low.
     let p = c.before in
     let a = p.before.before.before.args in
-    let e = p.page-answer.ensures page low in
-    e ∙ sym (decode_refused (code_by32 a.code a.positions.now) a.fits page a.thresholds.now (λ z. c.if1.true (e ∙ z)))
+    let e = p.page_answer-number.ensures page low in
+    e ∙ sym (decode_refused (code_by32 a.code a.positions.now) a.fits page a.thresholds.now (λ z. c.if-number-ne0.true (e ∙ z)))
 
-threshold-answer-requires : tie.Need-threshold-answer-requires
+threshold-answer-requires : tie.Need-threshold_answer-requires
 threshold-answer-requires c κs = search rules
 
-returns-2 : tie.Need-returns-2
+returns-2 : tie.Need-returns
 returns-2 c = λ page low.
     let done = c.before in
     let p = done.before in
     let a = p.before.before.before.args in
-    c.threshold-answer.ensures
-    ∙ sym (decode_passed (code_by32 a.code a.positions.now) a.fits page a.thresholds.now (sym (p.page-answer.ensures page low) ∙ done.if1.false))
+    c.threshold_answer.ensures
+    ∙ sym (decode_passed (code_by32 a.code a.positions.now) a.fits page a.thresholds.now (sym (p.page_answer-number.ensures page low) ∙ done.if-number-ne0.false))
 
-pub decode-answer-spec : {M : Type 1} → statement M
-decode-answer-spec = tie.close (tie.spec page-answer-requires returns threshold-answer-requires returns-2)
+pub decode_answer_spec : {M : Type 1} → statement M
+decode_answer_spec = tie.close (tie.spec page-answer-requires returns threshold-answer-requires returns-2)

@@ -7,36 +7,36 @@ use Rattle.symbols32.specs.Codes.{code_by32}
 use Rattle.answers32.proofs.explain_answer.Statement.{statement}
 use Rattle.answers32.proofs.explain_answer.Tie as tie
 
-pass-answer-requires : tie.Need-pass-answer-requires
+pass-answer-requires : tie.Need-pass_answer-number-requires
 pass-answer-requires c κs = search rules
 
-returns : tie.Need-returns
+returns : tie.Need-returns-then-number-ne0
 returns c = λ st low.
     let p = c.before in
     let a = p.before.before.args in
-    let e = p.pass-answer.ensures st low in
-    e ∙ sym (explain_refused (code_by32 a.code a.positions.now) a.fits a.threshold a.symbol st (λ z. c.if1.true (e ∙ z)))
+    let e = p.pass_answer-number.ensures st low in
+    e ∙ sym (explain_refused (code_by32 a.code a.positions.now) a.fits a.threshold a.symbol st (λ z. c.if-number-ne0.true (e ∙ z)))
 
-data-count-requires : tie.Need-data-count-requires
+data-count-requires : tie.Need-data_count-n-requires
 data-count-requires c κs = search rules
 
-returns-2 : tie.Need-returns-2
+returns-2 : tie.Need-returns-then-n-symbol
 returns-2 c = λ st low.
     let n = c.before in
     let done = n.before in
     let p = done.before in
     let a = p.before.before.args in
-    sym (explain_beyond (code_by32 a.code a.positions.now) a.fits a.threshold a.symbol st (sym (p.pass-answer.ensures st low) ∙ done.if1.false)
-    (omega (arith, n.data-count.ensures, c.if2.true)))
+    sym (explain_beyond (code_by32 a.code a.positions.now) a.fits a.threshold a.symbol st (sym (p.pass_answer-number.ensures st low) ∙ done.if-number-ne0.false)
+    (omega (arith, n.data_count-n.ensures, c.if-n-symbol.true)))
 
-returns-3 : tie.Need-returns-3
+returns-3 : tie.Need-returns
 returns-3 c = λ st low.
     let n = c.before in
     let done = n.before in
     let p = done.before in
     let a = p.before.before.args in
-    sym (explain_takes (code_by32 a.code a.positions.now) a.fits a.threshold a.symbol st (sym (p.pass-answer.ensures st low) ∙ done.if1.false)
-    (omega (arith, n.data-count.ensures, c.if2.false)))
+    sym (explain_takes (code_by32 a.code a.positions.now) a.fits a.threshold a.symbol st (sym (p.pass_answer-number.ensures st low) ∙ done.if-number-ne0.false)
+    (omega (arith, n.data_count-n.ensures, c.if-n-symbol.false)))
 
-pub explain-answer-spec : {M : Type 1} → statement M
-explain-answer-spec = tie.close (tie.spec pass-answer-requires returns data-count-requires returns-2 returns-3)
+pub explain_answer_spec : {M : Type 1} → statement M
+explain_answer_spec = tie.close (tie.spec pass-answer-requires returns data-count-requires returns-2 returns-3)
