@@ -1,5 +1,6 @@
 // The C form of explain on symbols of two bytes, which reads the positions of the table and writes its answer as bytes.
 #![tactic(auto)]
+
 ghost use Rattle.std.specs.Prelude.{◌≡◌, ◌≤◌};
 ghost use Rattle.model.specs.Code.{wide16, wide_code};
 ghost use Rattle.model.specs.Decoder.{state_by};

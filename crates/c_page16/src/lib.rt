@@ -1,6 +1,7 @@
 // The C forms of the calls on two-byte symbols that vote on nothing: the table check, encode, syndrome and open. Lengths are tested by the number of
 // symbols that the bytes stand for.
 #![tactic(auto)]
+
 ghost use Rattle.std.specs.Prelude.{◌≡◌, ◌≤◌};
 ghost use Rattle.model.specs.Code.{wide16, wide_code};
 ghost use Rattle.model.specs.Decoder.{state_by};

@@ -1,5 +1,6 @@
 // The C form of decode in blocks, with a buffer for the zeros lent: margins and counts are written as bytes.
 #![tactic(auto)]
+
 ghost use Rattle.std.specs.Prelude.{◌≡◌, true, ◌*◌, ◌≤◌, length};
 ghost use Rattle.model.specs.Decoder.{state_by};
 ghost use Rattle.params.specs.Codes.{code_by};

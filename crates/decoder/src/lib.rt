@@ -1,5 +1,6 @@
 // The calls decode and decode_counters, and what they share with decode_outer, which has the buffer for the zeros.
 #![tactic(auto)]
+
 ghost use Rattle.std.specs.Prelude.{◌≡◌, true};
 ghost use Rattle.model.specs.Code.{code_in, code_of};
 ghost use Rattle.model.specs.Decoder.{state_by};

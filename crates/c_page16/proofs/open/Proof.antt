@@ -18,73 +18,73 @@ use Rattle.c_page16.proofs.open.Tie as tie
 abbrev Holds : tie.Start → List ℕ → Outcome State → Type 0
 Holds s ps o =
     let a = s.args in
-    o ≡ wide_open_outcome (wide_code wide16 a.k a.b ps) a.page.now (state_by a.result.now a.syndrome.now a.difference.now)
+    o ≡ wide_open_outcome (wide_code wide16 a.k a.b ps) a.page.now (state_by a.res.now a.syndrome.now a.difference.now)
 
 -- what holds with the positions that are read, xs, holds with those of the table
 whole : (s : tie.Start) (xs : List ℕ) → xs ≡ kept (positions_of s.args.table.now) → (o : Outcome State) → Holds s xs o → Holds s (positions_of s.args.table.now) o
 whole s xs e o h =
     let a = s.args in
-    h ∙ open_whole wide16 65536 a.k a.b xs (positions_of a.table.now) e a.page.now (state_by a.result.now a.syndrome.now a.difference.now)
+    h ∙ open_whole wide16 65536 a.k a.b xs (positions_of a.table.now) e a.page.now (state_by a.res.now a.syndrome.now a.difference.now)
 
-slice-aggregate-read-positions : tie.Need-slice-aggregate-read-positions
+slice-aggregate-read-positions : tie.Need-slice_bounds-read_positions-end
 slice-aggregate-read-positions c = search rules
 
-read-positions-requires : tie.Need-read-positions-requires
+read-positions-requires : tie.Need-read_positions-n-requires
 read-positions-requires c κs = search rules
 
-array-share-prefix-few : tie.Need-array-share-prefix-few
+array-share-prefix-few : tie.Need-slice_bounds-few-end
 array-share-prefix-few c = search rules
 
-slice-aggregate-open-with : tie.Need-slice-aggregate-open-with
+slice-aggregate-open-with : tie.Need-slice_bounds-open_with-end
 slice-aggregate-open-with c = sym (length-take-le _ _ (omega arith))
 
-open-with-requires : tie.Need-open-with-requires
+open-with-requires : tie.Need-open_with-requires
 open-with-requires c κs = search rules
 
-same_length : tie.Need-same-length
+same_length : tie.Need-shape_of-res-then-table-le64
 same_length c = search rules
 
-same-length-2 : tie.Need-same-length-2
+same-length-2 : tie.Need-shape_of-syndrome-then-table-le64
 same-length-2 c = search rules
 
-same-length-3 : tie.Need-same-length-3
+same-length-3 : tie.Need-shape_of-difference-then-table-le64
 same-length-3 c = search rules
 
-returns : tie.Need-returns
+returns : tie.Need-returns-then-table-le64
 returns c =
     let p = c.before.before.before.before.before.before in
     let r = p.before.before.before.before.before.before in
-    whole r.before.before.before.before.before.before.before.before _ r.read-positions.ensures.1 _ p.open-with.ensures
+    whole r.before.before.before.before.before.before.before.before _ r.read_positions-n.ensures.1 _ p.open_with.ensures
 
-slice-aggregate-read-positions-2 : tie.Need-slice-aggregate-read-positions-2
+slice-aggregate-read-positions-2 : tie.Need-slice_bounds-read_positions-end-2
 slice-aggregate-read-positions-2 c = search rules
 
-read-positions-requires-2 : tie.Need-read-positions-requires-2
+read-positions-requires-2 : tie.Need-read_positions-n-requires-2
 read-positions-requires-2 c κs = search rules
 
-array-share-prefix-positions : tie.Need-array-share-prefix-positions
+array-share-prefix-positions : tie.Need-slice_bounds-positions-end
 array-share-prefix-positions c = search rules
 
-slice-aggregate-open-with-2 : tie.Need-slice-aggregate-open-with-2
+slice-aggregate-open-with-2 : tie.Need-slice_bounds-open_with-end-2
 slice-aggregate-open-with-2 c = sym (length-take-le _ _ (omega arith))
 
-open-with-requires-2 : tie.Need-open-with-requires-2
+open-with-requires-2 : tie.Need-open_with-requires-2
 open-with-requires-2 c κs = search rules
 
-same-length-4 : tie.Need-same-length-4
+same-length-4 : tie.Need-shape_of-res
 same-length-4 c = search rules
 
-same-length-5 : tie.Need-same-length-5
+same-length-5 : tie.Need-shape_of-syndrome
 same-length-5 c = search rules
 
-same-length-6 : tie.Need-same-length-6
+same-length-6 : tie.Need-shape_of-difference
 same-length-6 c = search rules
 
-returns-2 : tie.Need-returns-2
+returns-2 : tie.Need-returns
 returns-2 c =
     let p = c.before.before.before.before.before.before in
     let r = p.before.before.before.before.before.before in
-    whole r.before.before.before.before.before.before.before.before _ r.read-positions2.ensures.1 _ p.open-with2.ensures
+    whole r.before.before.before.before.before.before.before.before _ r.read_positions-n-2.ensures.1 _ p.open_with-2.ensures
 
 pub open_spec : {M : Type 1} → statement M
 open_spec =

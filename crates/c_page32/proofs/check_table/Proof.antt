@@ -21,48 +21,48 @@ Holds s ps r = r ≡ table_answer (wide_code wide32 s.args.k s.args.b ps)
 whole : (s : tie.Start) (xs : List ℕ) → xs ≡ kept (positions_of s.args.table.now) → (r : ℕ) → Holds s xs r → Holds s (positions_of s.args.table.now) r
 whole s xs e r h = h ∙ table_read wide32 4294967296 s.args.k s.args.b xs (positions_of s.args.table.now) e
 
-slice-aggregate-read-positions : tie.Need-slice-aggregate-read-positions
+slice-aggregate-read-positions : tie.Need-slice_bounds-read_positions-end
 slice-aggregate-read-positions c = search rules
 
-read-positions-requires : tie.Need-read-positions-requires
+read-positions-requires : tie.Need-read_positions-n-requires
 read-positions-requires c κs = search rules
 
-array-share-prefix-few : tie.Need-array-share-prefix-few
+array-share-prefix-few : tie.Need-slice_bounds-few-end
 array-share-prefix-few c = search rules
 
-slice-aggregate-table-answer : tie.Need-slice-aggregate-table-answer
+slice-aggregate-table-answer : tie.Need-slice_bounds-table_answer-end
 slice-aggregate-table-answer c = sym (length-take-le _ _ (omega arith))
 
-table-answer-requires : tie.Need-table-answer-requires
+table-answer-requires : tie.Need-table_answer-requires
 table-answer-requires c κs = search rules
 
-returns : tie.Need-returns
+returns : tie.Need-returns-then-table-le64
 returns c =
     let r = c.before.before.before in
-    whole r.before.before.before.before _ r.read-positions.ensures.1 _ c.table-answer.ensures
+    whole r.before.before.before.before _ r.read_positions-n.ensures.1 _ c.table_answer.ensures
 
-slice-aggregate-read-positions-2 : tie.Need-slice-aggregate-read-positions-2
+slice-aggregate-read-positions-2 : tie.Need-slice_bounds-read_positions-end-2
 slice-aggregate-read-positions-2 c = search rules
 
-read-positions-requires-2 : tie.Need-read-positions-requires-2
+read-positions-requires-2 : tie.Need-read_positions-n-requires-2
 read-positions-requires-2 c κs = search rules
 
-array-share-prefix-positions : tie.Need-array-share-prefix-positions
+array-share-prefix-positions : tie.Need-slice_bounds-positions-end
 array-share-prefix-positions c = search rules
 
-slice-aggregate-table-answer-2 : tie.Need-slice-aggregate-table-answer-2
+slice-aggregate-table-answer-2 : tie.Need-slice_bounds-table_answer-end-2
 slice-aggregate-table-answer-2 c = sym (length-take-le _ _ (omega arith))
 
-table-answer-requires-2 : tie.Need-table-answer-requires-2
+table-answer-requires-2 : tie.Need-table_answer-requires-2
 table-answer-requires-2 c κs = search rules
 
-returns-2 : tie.Need-returns-2
+returns-2 : tie.Need-returns
 returns-2 c =
     let r = c.before.before.before in
-    whole r.before.before.before.before _ r.read-positions2.ensures.1 _ c.table-answer2.ensures
+    whole r.before.before.before.before _ r.read_positions-n-2.ensures.1 _ c.table_answer-2.ensures
 
-pub check-table-spec : {M : Type 1} → statement M
-check-table-spec =
+pub check_table_spec : {M : Type 1} → statement M
+check_table_spec =
     tie.close
     (tie.spec
     slice-aggregate-read-positions

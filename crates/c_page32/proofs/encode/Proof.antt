@@ -25,56 +25,56 @@ Holds s ps r x =
 whole : (s : tie.Start) (xs : List ℕ) → xs ≡ kept (positions_of s.args.table.now) → (r : ℕ) (x : List ℕ) → Holds s xs r x → Holds s (positions_of s.args.table.now) r x
 whole s xs e r x h = let a = s.args in encode_whole wide32 4294967296 a.k a.b xs (positions_of a.table.now) e a.«data».now a.page.now r x h
 
-slice-aggregate-read-positions : tie.Need-slice-aggregate-read-positions
+slice-aggregate-read-positions : tie.Need-slice_bounds-read_positions-end
 slice-aggregate-read-positions c = search rules
 
-read-positions-requires : tie.Need-read-positions-requires
+read-positions-requires : tie.Need-read_positions-n-requires
 read-positions-requires c κs = search rules
 
-array-share-prefix-few : tie.Need-array-share-prefix-few
+array-share-prefix-few : tie.Need-slice_bounds-few-end
 array-share-prefix-few c = search rules
 
-slice-aggregate-encode-with : tie.Need-slice-aggregate-encode-with
+slice-aggregate-encode-with : tie.Need-slice_bounds-encode_with-end
 slice-aggregate-encode-with c = sym (length-take-le _ _ (omega arith))
 
-encode-with-requires : tie.Need-encode-with-requires
+encode-with-requires : tie.Need-encode_with-requires
 encode-with-requires c κs = search rules
 
-same_length : tie.Need-same-length
+same_length : tie.Need-shape_of-page-then-table-le64
 same_length c = search rules
 
-returns : tie.Need-returns
+returns : tie.Need-returns-then-table-le64
 returns c =
     let p = c.before.before in
     let r = p.before.before.before.before in
-    whole r.before.before.before.before.before.before _ r.read-positions.ensures.1 _ _ p.encode-with.ensures
+    whole r.before.before.before.before.before.before _ r.read_positions-n.ensures.1 _ _ p.encode_with.ensures
 
-slice-aggregate-read-positions-2 : tie.Need-slice-aggregate-read-positions-2
+slice-aggregate-read-positions-2 : tie.Need-slice_bounds-read_positions-end-2
 slice-aggregate-read-positions-2 c = search rules
 
-read-positions-requires-2 : tie.Need-read-positions-requires-2
+read-positions-requires-2 : tie.Need-read_positions-n-requires-2
 read-positions-requires-2 c κs = search rules
 
-array-share-prefix-positions : tie.Need-array-share-prefix-positions
+array-share-prefix-positions : tie.Need-slice_bounds-positions-end
 array-share-prefix-positions c = search rules
 
-slice-aggregate-encode-with-2 : tie.Need-slice-aggregate-encode-with-2
+slice-aggregate-encode-with-2 : tie.Need-slice_bounds-encode_with-end-2
 slice-aggregate-encode-with-2 c = sym (length-take-le _ _ (omega arith))
 
-encode-with-requires-2 : tie.Need-encode-with-requires-2
+encode-with-requires-2 : tie.Need-encode_with-requires-2
 encode-with-requires-2 c κs = search rules
 
-same-length-2 : tie.Need-same-length-2
+same-length-2 : tie.Need-shape_of-page
 same-length-2 c = search rules
 
-returns-2 : tie.Need-returns-2
+returns-2 : tie.Need-returns
 returns-2 c =
     let p = c.before.before in
     let r = p.before.before.before.before in
-    whole r.before.before.before.before.before.before _ r.read-positions2.ensures.1 _ _ p.encode-with2.ensures
+    whole r.before.before.before.before.before.before _ r.read_positions-n-2.ensures.1 _ _ p.encode_with-2.ensures
 
-pub encode-spec : {M : Type 1} → statement M
-encode-spec =
+pub encode_spec : {M : Type 1} → statement M
+encode_spec =
     tie.close
     (tie.spec
     slice-aggregate-read-positions

@@ -21,56 +21,56 @@ Holds s ps o = o ≡ wide_syndrome_outcome (wide_code wide32 s.args.k s.args.b p
 whole : (s : tie.Start) (xs : List ℕ) → xs ≡ kept (positions_of s.args.table.now) → (o : Outcome (List ℕ)) → Holds s xs o → Holds s (positions_of s.args.table.now) o
 whole s xs e o h = let a = s.args in h ∙ syndrome_whole wide32 4294967296 a.k a.b xs (positions_of a.table.now) e a.page.now a.syndrome.now
 
-slice-aggregate-read-positions : tie.Need-slice-aggregate-read-positions
+slice-aggregate-read-positions : tie.Need-slice_bounds-read_positions-end
 slice-aggregate-read-positions c = search rules
 
-read-positions-requires : tie.Need-read-positions-requires
+read-positions-requires : tie.Need-read_positions-n-requires
 read-positions-requires c κs = search rules
 
-array-share-prefix-few : tie.Need-array-share-prefix-few
+array-share-prefix-few : tie.Need-slice_bounds-few-end
 array-share-prefix-few c = search rules
 
-slice-aggregate-syndrome-with : tie.Need-slice-aggregate-syndrome-with
+slice-aggregate-syndrome-with : tie.Need-slice_bounds-syndrome_with-end
 slice-aggregate-syndrome-with c = sym (length-take-le _ _ (omega arith))
 
-syndrome-with-requires : tie.Need-syndrome-with-requires
+syndrome-with-requires : tie.Need-syndrome_with-requires
 syndrome-with-requires c κs = search rules
 
-same_length : tie.Need-same-length
+same_length : tie.Need-shape_of-syndrome-then-table-le64
 same_length c = search rules
 
-returns : tie.Need-returns
+returns : tie.Need-returns-then-table-le64
 returns c =
     let p = c.before.before in
     let r = p.before.before.before.before in
-    whole r.before.before.before.before.before.before _ r.read-positions.ensures.1 _ p.syndrome-with.ensures
+    whole r.before.before.before.before.before.before _ r.read_positions-n.ensures.1 _ p.syndrome_with.ensures
 
-slice-aggregate-read-positions-2 : tie.Need-slice-aggregate-read-positions-2
+slice-aggregate-read-positions-2 : tie.Need-slice_bounds-read_positions-end-2
 slice-aggregate-read-positions-2 c = search rules
 
-read-positions-requires-2 : tie.Need-read-positions-requires-2
+read-positions-requires-2 : tie.Need-read_positions-n-requires-2
 read-positions-requires-2 c κs = search rules
 
-array-share-prefix-positions : tie.Need-array-share-prefix-positions
+array-share-prefix-positions : tie.Need-slice_bounds-positions-end
 array-share-prefix-positions c = search rules
 
-slice-aggregate-syndrome-with-2 : tie.Need-slice-aggregate-syndrome-with-2
+slice-aggregate-syndrome-with-2 : tie.Need-slice_bounds-syndrome_with-end-2
 slice-aggregate-syndrome-with-2 c = sym (length-take-le _ _ (omega arith))
 
-syndrome-with-requires-2 : tie.Need-syndrome-with-requires-2
+syndrome-with-requires-2 : tie.Need-syndrome_with-requires-2
 syndrome-with-requires-2 c κs = search rules
 
-same-length-2 : tie.Need-same-length-2
+same-length-2 : tie.Need-shape_of-syndrome
 same-length-2 c = search rules
 
-returns-2 : tie.Need-returns-2
+returns-2 : tie.Need-returns
 returns-2 c =
     let p = c.before.before in
     let r = p.before.before.before.before in
-    whole r.before.before.before.before.before.before _ r.read-positions2.ensures.1 _ p.syndrome-with2.ensures
+    whole r.before.before.before.before.before.before _ r.read_positions-n-2.ensures.1 _ p.syndrome_with-2.ensures
 
-pub syndrome-spec : {M : Type 1} → statement M
-syndrome-spec =
+pub syndrome_spec : {M : Type 1} → statement M
+syndrome_spec =
     tie.close
     (tie.spec
     slice-aggregate-read-positions

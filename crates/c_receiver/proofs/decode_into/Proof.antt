@@ -19,29 +19,29 @@ use Rattle.receiver.specs.Received.{Ran, ran_outcome}
 use Rattle.c_receiver.proofs.decode_into.Statement.{statement}
 use Rattle.c_receiver.proofs.decode_into.Tie as tie
 
-data-count-requires : tie.Need-data-count-requires
+data-count-requires : tie.Need-data_count-n-requires
 data-count-requires c κs =
     let b = c.before.before.before.before.before.before.before.before.before.before in
     omega (arith, sizes_fit b.args.code.k b.args.code.b b.requires.0 b.requires.1)
 
-bytes-fit-requires : tie.Need-bytes-fit-requires
+bytes-fit-requires : tie.Need-bytes_fit-bytes-requires
 bytes-fit-requires c κs = search rules
 
 also-requires : tie.Need-also-requires
 also-requires c κs = search rules
 
-decode-with-requires : tie.Need-decode-with-requires
+decode-with-requires : tie.Need-decode_with-decoded-requires
 decode-with-requires c κs =
     let t = c.before.before.before.before.before in
     let p = t.before.before.before.before.before.before.before.before.before.before.before.before.before.requires in
-    let n = t.before.before.data-count.ensures in
+    let n = t.before.before.data_count-n.ensures in
     (n, λ h. omega (arith, n, p.2 (omega (arith, n, h))), p.3, λ e. p.4 (and_true _ _ (sym t.also.ensures ∙ e)).0, p.5)
 
 -- the places that later ones look back to: the start and the decode
-abbrev start : tie.After-decode-with → tie.Start
+abbrev start : tie.After-decode_with-decoded → tie.Start
 start c = c.before.before.before.before.before.before.before.before.before.before.before.before.before.before.before.before.before.before.before
 
-abbrev decode : tie.After-struct-known → tie.After-decode-with
+abbrev decode : tie.After-struct_known-1 → tie.After-decode_with-decoded
 decode c = c.before.before.before.before.before.before.before.before.before.before.before
 
 -- the lengths of the margins and of the counts, and with them what else only this form lends
@@ -52,112 +52,112 @@ abbrev others : tie.Start → Bool
 others b = b.args.others && bytes b
 
 -- the number returned is that of decode in these blocks, with margins and counts among the lent buffers
-number : (p : tie.After-decode-with)
+number : (p : tie.After-decode_with-decoded)
     → let a = (start p).args in
     let code = code_by a.code a.positions.now in
-    let lent = state_by a.result.now a.syndrome.now a.difference.now in
-    p.decode-with.result.number ≡ blocks_answer code a.block (others (start p) && decode_fits code a.page.now lent) a.page.now a.thresholds.now
+    let lent = state_by a.res.now a.syndrome.now a.difference.now in
+    p.decode_with-decoded.result.number ≡ blocks_answer code a.block (others (start p) && decode_fits code a.page.now lent) a.page.now a.thresholds.now
 unfolding ran_outcome
 number p =
     let a = (start p).args in
     let code : Code = code_by a.code a.positions.now in
-    let lent : State = state_by a.result.now a.syndrome.now a.difference.now in
-    outcome_number _ _ _ _ _ p.decode-with.ensures.0
+    let lent : State = state_by a.res.now a.syndrome.now a.difference.now in
+    outcome_number _ _ _ _ _ p.decode_with-decoded.ensures.0
     ∙ ap (λ (b : Bool). blocks_answer code a.block (b && decode_fits code a.page.now lent) a.page.now a.thresholds.now)
     (p.before.before.before.before.before.before.also.ensures
     ∙ ap (λ (b : Bool). a.others && b)
-    (p.before.before.before.before.before.before.before.bytes_fit.ensures ∙ ap (λ (n : ℕ). eqb (length a.margins.now) (4 * n) && eqb (length a.counts.now) 16) p.before.before.before.before.before.before.before.before.data-count.ensures))
+    (p.before.before.before.before.before.before.before.bytes_fit-bytes.ensures ∙ ap (λ (n : ℕ). eqb (length a.margins.now) (4 * n) && eqb (length a.counts.now) 16) p.before.before.before.before.before.before.before.before.data_count-n.ensures))
 
 -- where it is done, both lengths fit
-lengths : (c : tie.Else1)
+lengths : (c : tie.Else-decoded-ne0)
     → let a = (start (decode c.before)).args in
     (length a.margins.now ≡ 4 * (a.code.b * a.code.k)) × (length a.counts.now ≡ 16)
 lengths c =
     let p = decode c.before in
     let a = (start p).args in
     let f = and_true (eqb (length a.margins.now) (4 * (a.code.b * a.code.k))) (eqb (length a.counts.now) 16)
-    (and_true a.others _ (decode_opens _ (others (start p)) a.page.now a.thresholds.now (state_by a.result.now a.syndrome.now a.difference.now)
-    (blocks_taken _ _ a.page.now a.thresholds.now a.block (sym (number p) ∙ c.if1.false)).0).0).1 in
+    (and_true a.others _ (decode_opens _ (others (start p)) a.page.now a.thresholds.now (state_by a.res.now a.syndrome.now a.difference.now)
+    (blocks_taken _ _ a.page.now a.thresholds.now a.block (sym (number p) ∙ c.if-decoded-ne0.false)).0).0).1 in
     (eqb-true (length a.margins.now) (4 * (a.code.b * a.code.k)) f.0, eqb-true (length a.counts.now) 16 f.1)
 
-same_length : tie.Need-same-length
+same_length : tie.Need-shape_of-zeros-then-decoded-ne0
 same_length c = search rules
 
-same-length-2 : tie.Need-same-length-2
+same-length-2 : tie.Need-shape_of-counters-then-decoded-ne0
 same-length-2 c = search rules
 
-same-length-3 : tie.Need-same-length-3
+same-length-3 : tie.Need-shape_of-res-then-decoded-ne0
 same-length-3 c = search rules
 
-same-length-4 : tie.Need-same-length-4
+same-length-4 : tie.Need-shape_of-syndrome-then-decoded-ne0
 same-length-4 c = search rules
 
-returns : tie.Need-returns
+returns : tie.Need-returns-then-decoded-ne0
 unfolding ran_outcome c_decode_form form_outcome
 returns c =
     let p = decode c.before in
     let a = (start p).args in
-    let same = outcome_lent _ _ _ _ _ p.decode-with.ensures.0 c.if1.true in (
-      ap (λ (x : Ran). record { number = p.decode-with.result.number; left = record { state = x.state; margins = a.margins.now; counts = a.counts.now } }) same
-          ∙ left_as_lent _ _ _ _ (number p) c.if1.true,
-      p.decode-with.ensures.1.1,
+    let same = outcome_lent _ _ _ _ _ p.decode_with-decoded.ensures.0 c.if-decoded-ne0.true in (
+      ap (λ (x : Ran). record { number = p.decode_with-decoded.result.number; left = record { state = x.state; margins = a.margins.now; counts = a.counts.now } }) same
+          ∙ left_as_lent _ _ _ _ (number p) c.if-decoded-ne0.true,
+      p.decode_with-decoded.ensures.1.1,
     )
 
-put-margins-requires : tie.Need-put-margins-requires
+put-margins-requires : tie.Need-put_margins-requires
 put-margins-requires c κs =
-    let done = c.before.before.before.before.before in
-    let left = (decode done.before).decode-with.ensures.1.0 done.if1.false in
+    let done = c.before.before in
+    let left = (decode done.before).decode_with-decoded.ensures.1.0 done.if-decoded-ne0.false in
     (left.0, (lengths done).0, left.1)
 
-put-counts-requires : tie.Need-put-counts-requires
-put-counts-requires c κs = (lengths c.before.before.before.before.before.before.before.before.before).1
+put-counts-requires : tie.Need-put_counts-requires
+put-counts-requires c κs = (lengths c.before.before.before.before.before.before).1
 
-same-length-5 : tie.Need-same-length-5
+same-length-5 : tie.Need-shape_of-difference-then-decoded-ne0
 same-length-5 c = search rules
 
-same-length-6 : tie.Need-same-length-6
+same-length-6 : tie.Need-shape_of-zeros
 same-length-6 c = search rules
 
-same-length-7 : tie.Need-same-length-7
+same-length-7 : tie.Need-shape_of-counters
 same-length-7 c = search rules
 
-same-length-8 : tie.Need-same-length-8
+same-length-8 : tie.Need-shape_of-res
 same-length-8 c = search rules
 
-same-length-9 : tie.Need-same-length-9
+same-length-9 : tie.Need-shape_of-syndrome
 same-length-9 c = search rules
 
-same-length-10 : tie.Need-same-length-10
+same-length-10 : tie.Need-shape_of-difference
 same-length-10 c = search rules
 
-same-length-11 : tie.Need-same-length-11
+same-length-11 : tie.Need-shape_of-margins
 same-length-11 c = search rules
 
-same-length-12 : tie.Need-same-length-12
+same-length-12 : tie.Need-shape_of-counts
 same-length-12 c = search rules
 
-returns-2 : tie.Need-returns-2
+returns-2 : tie.Need-returns
 unfolding ran_outcome c_decode_form form_outcome
 returns-2 c =
     let counts = c.before.before in
     let margins = counts.before.before.before.before in
-    let done = margins.before.before.before.before.before.before in
+    let done = margins.before.before.before in
     let p = decode done.before in
     let a = (start p).args in
     let code : Code = code_by a.code a.positions.now in
-    let z = done.if1.false in
-    let made = outcome_done _ _ _ _ _ p.decode-with.ensures.0 z in (
+    let z = done.if-decoded-ne0.false in
+    let made = outcome_done _ _ _ _ _ p.decode_with-decoded.ensures.0 z in (
       left_as_done _ _ _ _ (sym z ∙ number p)
           (λ i. record {
             state = (made i).state;
-            margins = (margins.put-margins.ensures _ ∙ ap (λ (x : Ran). margin_bytes (margins_of code x.state)) made) i;
-            counts = (counts.put-counts.ensures ∙ ap (λ (x : Ran). bytes_of x.counts) made) i;
+            margins = (margins.put_margins.ensures _ ∙ ap (λ (x : Ran). margin_bytes (margins_of code x.state)) made) i;
+            counts = (counts.put_counts.ensures ∙ ap (λ (x : Ran). bytes_of x.counts) made) i;
           }),
-      p.decode-with.ensures.1.1,
+      p.decode_with-decoded.ensures.1.1,
     )
 
-pub decode-into-spec : {M : Type 1} → statement M
-decode-into-spec =
+pub decode_into_spec : {M : Type 1} → statement M
+decode_into_spec =
     tie.close
     (tie.spec
     data-count-requires
