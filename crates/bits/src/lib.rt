@@ -1,6 +1,7 @@
 // The calls on bit pages: q is 2, and the votes are taken by the ones of a word that holds the estimates. Each is the call of its name in this
 // profile.
 #![tactic(auto)]
+
 ghost use Rattle.std.specs.Prelude.{◌≡◌, true};
 ghost use Rattle.model.specs.Code.{bit_pages, code_in};
 ghost use Rattle.model.specs.Decoder.{state_by};

@@ -1,5 +1,6 @@
 // The C form of decode in blocks, which reads the positions of the table and has the buffer for the zeros.
 #![tactic(auto)]
+
 ghost use Rattle.std.specs.Prelude.{◌≡◌};
 ghost use Rattle.model.specs.Code.{code_of};
 ghost use Rattle.model.specs.Decoder.{state_by};

@@ -1,5 +1,6 @@
 // The C form of decode with the positions read, which has the buffer for the zeros and lends no counters.
 #![tactic(auto)]
+
 ghost use Rattle.std.specs.Prelude.{◌≡◌, true, ◌≤◌};
 ghost use Rattle.model.specs.Decoder.{state_by};
 ghost use Rattle.params.specs.Codes.{code_by};

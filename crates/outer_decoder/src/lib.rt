@@ -1,5 +1,6 @@
 // The call decode_outer.
 #![tactic(auto)]
+
 ghost use Rattle.std.specs.Prelude.{◌≡◌};
 ghost use Rattle.model.specs.Code.{code_of};
 ghost use Rattle.model.specs.Decoder.{state_by};

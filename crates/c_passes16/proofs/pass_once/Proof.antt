@@ -26,7 +26,7 @@ abbrev symbols : tie.Start → State
 symbols b = state_read (symbol_size wide16) (state_by b.args.res.now b.args.syndrome.now b.args.difference.now)
 
 usable : (b : tie.Start) → Usable (code b)
-usable b = table_usable (code b) b.requires.0.true.table
+usable b = table_usable (code b) b.requires.0.taken.table
 
 read-symbols-requires : tie.Need-read_symbols-requires
 read-symbols-requires c κs =
@@ -67,7 +67,7 @@ run-requires c κs =
     let z = c.before.before.before.before.before.before.before.before.before in
     let b = start (opening z) in
     let fit : State → Type 0 = Sized (code b).q (data_count (code b)) (check_count (code b)) in (
-      record { usable = usable b; bytes = omega arith; sized = subst fit (sym (loaded z)) b.requires.0.true.sized },
+      record { usable = usable b; bytes = omega arith; sized = subst fit (sym (loaded z)) b.requires.0.taken.sized },
       omega arith,
       ap (λ (t : Tally). t.changes) o.opened-opened.ensures,
       b.requires.1,
