@@ -1,5 +1,6 @@
 // The C form of decode, which reads the positions of the table.
 #![tactic(auto)]
+
 ghost use Rattle.std.specs.Prelude.{◌≡◌, true};
 ghost use Rattle.model.specs.Code.{code_in};
 ghost use Rattle.model.specs.Decoder.{state_by, decoded_counts};

@@ -1,5 +1,6 @@
 // The C form of decode on symbols of two bytes, which reads the positions of the table.
 #![tactic(auto)]
+
 ghost use Rattle.std.specs.Prelude.{◌≡◌, ◌≤◌, length};
 ghost use Rattle.model.specs.Code.{wide16, wide_code};
 ghost use Rattle.model.specs.Decoder.{state_by, decoded_counts};

@@ -1,5 +1,6 @@
 // The C form of explain on symbols of four bytes, which reads the positions of the table and writes its answer as bytes.
 #![tactic(auto)]
+
 ghost use Rattle.std.specs.Prelude.{◌≡◌, ◌≤◌};
 ghost use Rattle.model.specs.Code.{wide32, wide_code};
 ghost use Rattle.model.specs.Decoder.{state_by};

@@ -1,6 +1,7 @@
 // The C form of a pass on symbols of four bytes with the positions read, which has the buffers for the symbols, in three sizes, each in a function
 // of its own, as those of decode.
 #![tactic(auto)]
+
 ghost use Rattle.std.specs.Prelude.{◌≡◌, ◌*◌, ◌≤◌};
 ghost use Rattle.model.specs.Code.{wide32};
 ghost use Rattle.model.specs.Decoder.{state_by};

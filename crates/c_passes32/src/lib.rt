@@ -1,6 +1,7 @@
 // The C form of a pass on symbols of four bytes, with the buffers for its symbols lent: the tests, the pass on the symbols that the bytes stand
 // for, and what it leaves, written as bytes.
 #![tactic(auto)]
+
 ghost use Rattle.std.specs.Prelude.{◌≡◌, ◌*◌, ◌≤◌, length};
 ghost use Rattle.model.specs.Calls.{passed_state, passed_changes};
 ghost use Rattle.model.specs.Code.{wide32, data_count, check_count};

@@ -1,6 +1,7 @@
 // The C form of decode on symbols of four bytes, with the buffers for its symbols lent: the tests, the decoding of a page that was tested, and
 // what it leaves, written as bytes.
 #![tactic(auto)]
+
 ghost use Rattle.std.specs.Prelude.{◌≡◌, ◌≢◌, ◌*◌, ◌≤◌, length};
 ghost use Rattle.model.specs.Code.{wide32, data_count, check_count};
 ghost use Rattle.model.specs.Decoder.{state_by};

@@ -2,6 +2,7 @@
 // a function of its own, so that a call takes no more stack than the size of its code needs. Each function is called twice by the crate above and
 // makes two calls with many parameters: then the compiler keeps it apart.
 #![tactic(auto)]
+
 ghost use Rattle.std.specs.Prelude.{◌≡◌, ◌*◌, ◌≤◌};
 ghost use Rattle.model.specs.Code.{wide32};
 ghost use Rattle.model.specs.Decoder.{state_by};

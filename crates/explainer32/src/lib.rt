@@ -1,5 +1,6 @@
 // The call explain on symbols of four bytes. It takes no q, and that of `Params` is not read.
 #![tactic(auto)]
+
 ghost use Rattle.std.specs.Prelude.{◌≡◌, true};
 ghost use Rattle.model.specs.Code.{wide32, wide_code};
 ghost use Rattle.model.specs.Decoder.{state_by};

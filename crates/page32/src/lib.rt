@@ -1,6 +1,7 @@
 // The calls on pages of four-byte symbols that vote on nothing: the table check, encode, syndrome and open. They take no q, and that of `Params`
 // is not read: every symbol is below 4,294,967,296.
 #![tactic(auto)]
+
 ghost use Rattle.std.specs.Prelude.{◌≡◌, true};
 ghost use Rattle.model.specs.Code.{wide32, wide_code};
 ghost use Rattle.model.specs.Decoder.{state_by};

@@ -1,5 +1,6 @@
 // Decode on symbols of four bytes, with the buffers for the zeros and the marks lent: the tests, the correction, the margins.
 #![tactic(auto)]
+
 ghost use Rattle.std.specs.Prelude.{◌≡◌, true, ◌*◌, ◌≤◌, length};
 ghost use Rattle.model.specs.Decoder.{state_by};
 ghost use Rattle.model.specs.Calls.{decode_outcome};

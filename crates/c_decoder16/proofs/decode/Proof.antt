@@ -16,7 +16,7 @@ use Rattle.c_decoder16.proofs.decode.Statement.{statement}
 use Rattle.c_decoder16.proofs.decode.Tie as tie
 
 -- the start, from where the buffer for the positions is chosen; the code, and what was lent
-abbrev start : tie.After-slice-known5 → tie.Start
+abbrev start : tie.After-slice_known-5-1 → tie.Start
 start c = c.before.before.before.before.before.before.before.before
 
 abbrev code : tie.Start → Code
@@ -38,50 +38,50 @@ holds b r x e =
     let p : Params = record { q = 256; k = a.k; b = a.b; bits = false } in
     decode_holds (code b) (own p (positions_of a.table.now)) a.page.now a.thresholds.now (lent b) a.margins.now a.counts.now r x e
 
-decode-few-requires : tie.Need-decode-few-requires
+decode-few-requires : tie.Need-decode_few-requires
 decode-few-requires c κs = search rules
 
-same_length : tie.Need-same-length
+same_length : tie.Need-shape_of-res-then-table-le64
 same_length c = search rules
 
-same-length-2 : tie.Need-same-length-2
+same-length-2 : tie.Need-shape_of-syndrome-then-table-le64
 same-length-2 c = search rules
 
-same-length-3 : tie.Need-same-length-3
+same-length-3 : tie.Need-shape_of-difference-then-table-le64
 same-length-3 c = search rules
 
-same-length-4 : tie.Need-same-length-4
+same-length-4 : tie.Need-shape_of-margins-then-table-le64
 same-length-4 c = search rules
 
-same-length-5 : tie.Need-same-length-5
+same-length-5 : tie.Need-shape_of-counts-then-table-le64
 same-length-5 c = search rules
 
-returns : tie.Need-returns
-returns c = let d = c.before.before.before.before.before.before.before.before.before.before in holds (start d.before.before.before.before.before.before.before) _ _ d.decode-few.ensures
+returns : tie.Need-returns-then-table-le64
+returns c = let d = c.before.before.before.before.before.before.before.before.before.before in holds (start d.before.before.before.before.before.before.before) _ _ d.decode_few.ensures
 
-decode-many-requires : tie.Need-decode-many-requires
+decode-many-requires : tie.Need-decode_many-requires
 decode-many-requires c κs = search rules
 
-same-length-6 : tie.Need-same-length-6
+same-length-6 : tie.Need-shape_of-res
 same-length-6 c = search rules
 
-same-length-7 : tie.Need-same-length-7
+same-length-7 : tie.Need-shape_of-syndrome
 same-length-7 c = search rules
 
-same-length-8 : tie.Need-same-length-8
+same-length-8 : tie.Need-shape_of-difference
 same-length-8 c = search rules
 
-same-length-9 : tie.Need-same-length-9
+same-length-9 : tie.Need-shape_of-margins
 same-length-9 c = search rules
 
-same-length-10 : tie.Need-same-length-10
+same-length-10 : tie.Need-shape_of-counts
 same-length-10 c = search rules
 
-returns-2 : tie.Need-returns-2
-returns-2 c = let d = c.before.before.before.before.before.before.before.before.before.before in holds (start d.before.before.before.before.before.before.before) _ _ d.decode-many.ensures
+returns-2 : tie.Need-returns
+returns-2 c = let d = c.before.before.before.before.before.before.before.before.before.before in holds (start d.before.before.before.before.before.before.before) _ _ d.decode_many.ensures
 
-pub decode-spec : {M : Type 1} → statement M
-decode-spec =
+pub decode_spec : {M : Type 1} → statement M
+decode_spec =
     tie.close
     (tie.spec
     decode-few-requires

@@ -18,7 +18,7 @@ use Rattle.c_decoder16.proofs.decode_few.Statement.{statement}
 use Rattle.c_decoder16.proofs.decode_few.Tie as tie
 
 -- the start, from where the positions are read; the code with positions xs, and what was lent
-abbrev start : tie.After-read-positions → tie.Start
+abbrev start : tie.After-read_positions-count → tie.Start
 start r = r.before.before.before.before.before.before.before.before.before.before
 
 abbrev code : tie.Start → List ℕ → Code
@@ -43,53 +43,53 @@ whole b xs e r x h =
     h ∙ sym (decode_left (code b xs) a.page.now a.thresholds.now (lent b) a.margins.now a.counts.now)
     ∙ decode_same wide16 (highest wide16) a.code.k a.code.b xs (positions_of a.table.now) e a.page.now a.thresholds.now (lent b) a.margins.now a.counts.now
 
-slice-aggregate-read-positions : tie.Need-slice-aggregate-read-positions
+slice-aggregate-read-positions : tie.Need-slice_bounds-read_positions-end
 slice-aggregate-read-positions c = search rules
 
-read-positions-requires : tie.Need-read-positions-requires
+read-positions-requires : tie.Need-read_positions-count-requires
 read-positions-requires c κs = search rules
 
-array-share-prefix-few : tie.Need-array-share-prefix-few
+array-share-prefix-few : tie.Need-slice_bounds-few-end
 array-share-prefix-few c = search rules
 
-slice-aggregate-positions : tie.Need-slice-aggregate-positions
+slice-aggregate-positions : tie.Need-slice_bounds-positions-end
 slice-aggregate-positions c = sym (length-take-le _ _ (omega arith))
 
-decode-number-requires : tie.Need-decode-number-requires
+decode-number-requires : tie.Need-decode_number-number-requires
 decode-number-requires c κs = search rules
 
 -- where the positions are read, from where the number is known; the positions
-abbrev reading : tie.After-decode-number → tie.After-read-positions
-reading p = p.before.before.before.before.before.before.before.before
+abbrev reading : tie.After-decode_number-number → tie.After-read_positions-count
+reading p = p.before.before.before
 
-abbrev read : tie.After-decode-number → List ℕ
-read p = take (reading p).read-positions.result (reading p).read-positions.new.1.0
+abbrev read : tie.After-decode_number-number → List ℕ
+read p = take (reading p).read_positions-count.result (reading p).read_positions-count.new.positions
 
-same_length : tie.Need-same-length
+same_length : tie.Need-shape_of-res-then-number-ne0
 same_length c = search rules
 
-same-length-2 : tie.Need-same-length-2
+same-length-2 : tie.Need-shape_of-syndrome-then-number-ne0
 same-length-2 c = search rules
 
-same-length-3 : tie.Need-same-length-3
+same-length-3 : tie.Need-shape_of-difference-then-number-ne0
 same-length-3 c = search rules
 
-same-length-4 : tie.Need-same-length-4
+same-length-4 : tie.Need-shape_of-margins-then-number-ne0
 same-length-4 c = search rules
 
-same-length-5 : tie.Need-same-length-5
+same-length-5 : tie.Need-shape_of-counts-then-number-ne0
 same-length-5 c = search rules
 
-returns : tie.Need-returns
+returns : tie.Need-returns-then-number-ne0
 returns c =
     let p = c.before in
-    whole (start (reading p)) (read p) (reading p).read-positions.ensures.1 _ _ (left_as_lent _ _ _ _ p.decode-number.ensures c.if1.true)
+    whole (start (reading p)) (read p) (reading p).read_positions-count.ensures.1 _ _ (left_as_lent _ _ _ _ p.decode_number-number.ensures c.if-number-ne0.true)
 
 -- what it works on where it is not refused
-zero : (e : tie.Else1) → numberBy (start (reading e.before)) (read e.before) ≡ 0
-zero e = sym e.before.decode-number.ensures ∙ e.if1.false
+zero : (e : tie.Else-number-ne0) → numberBy (start (reading e.before)) (read e.before) ≡ 0
+zero e = sym e.before.decode_number-number.ensures ∙ e.if-number-ne0.false
 
-taken : (e : tie.Else1)
+taken : (e : tie.Else-number-ne0)
     → let b = start (reading e.before) in
     let a = b.args in
     DecodeTakes (symbol_size wide16) (code b (read e.before)) a.page.now a.thresholds.now (lent b) a.margins.now a.counts.now
@@ -98,93 +98,93 @@ taken e =
     let a = b.args in
     decode_takes (symbol_size wide16) (omega arith) (code b (read e.before)) a.page.now a.thresholds.now (lent b) a.margins.now a.counts.now (zero e)
 
-data-high : (e : tie.Else1) → let a = (start (reading e.before)).args in a.code.b * a.code.k ≤ 4096
+data-high : (e : tie.Else-number-ne0) → let a = (start (reading e.before)).args in a.code.b * a.code.k ≤ 4096
 data-high e = (taken e).taken.opens.usable.table.sizes.data-high
 
-data-count-requires : tie.Need-data-count-requires
+data-count-requires : tie.Need-data_count-n-requires
 data-count-requires c κs = omega (arith, data-high c)
 
 -- done, from the place where its number was 0
-finished : (e : tie.Else1) (x : Decoded (List ℕ) (List ℕ))
+finished : (e : tie.Else-number-ne0) (x : Decoded (List ℕ) (List ℕ))
     → (let b = start (reading e.before) in x ≡ decoded_bytes (symbol_size wide16) (code b (read e.before)) b.args.thresholds.now b.args.page.now)
     → let b = start (reading e.before) in
     let a = b.args in
     record { number = 0; left = x } ≡ wide_decode_outcome (code b (positions_of a.table.now)) a.page.now a.thresholds.now (lent b) a.margins.now a.counts.now
 finished e x h =
     let p = e.before in
-    whole (start (reading p)) (read p) (reading p).read-positions.ensures.1 0 x (left_as_done _ _ _ x (sym (zero e)) h)
+    whole (start (reading p)) (read p) (reading p).read_positions-count.ensures.1 0 x (left_as_done _ _ _ x (sym (zero e)) h)
 
-decode-small-requires : tie.Need-decode-small-requires
+decode-small-requires : tie.Need-decode_small-requires
 decode-small-requires c κs =
     let t = c.before.before.before.before.before in
     let n = t.before in
-    (taken n.before, omega (arith, n.data-count.ensures, t.if2.true))
+    (taken n.before, omega (arith, n.data_count-n.ensures, t.if-n-le128.true))
 
-same-length-6 : tie.Need-same-length-6
+same-length-6 : tie.Need-shape_of-res-then-n-le128
 same-length-6 c = search rules
 
-same-length-7 : tie.Need-same-length-7
+same-length-7 : tie.Need-shape_of-syndrome-then-n-le128
 same-length-7 c = search rules
 
-same-length-8 : tie.Need-same-length-8
+same-length-8 : tie.Need-shape_of-difference-then-n-le128
 same-length-8 c = search rules
 
-same-length-9 : tie.Need-same-length-9
+same-length-9 : tie.Need-shape_of-margins-then-n-le128
 same-length-9 c = search rules
 
-same-length-10 : tie.Need-same-length-10
+same-length-10 : tie.Need-shape_of-counts-then-n-le128
 same-length-10 c = search rules
 
-returns-2 : tie.Need-returns-2
-returns-2 c = let d = c.before.before.before.before.before.before.before.before.before.before in finished d.before.before.before.before.before.before.before.before _ d.decode-small.ensures
+returns-2 : tie.Need-returns-then-n-le128
+returns-2 c = let d = c.before.before.before.before.before.before.before.before.before.before in finished d.before.before.before.before.before.before.before.before _ d.decode_small.ensures
 
-decode-medium-requires : tie.Need-decode-medium-requires
+decode-medium-requires : tie.Need-decode_medium-requires
 decode-medium-requires c κs =
     let t = c.before.before.before.before.before in
     let n = t.before.before in
-    (taken n.before, omega (arith, n.data-count.ensures, t.if3.true))
+    (taken n.before, omega (arith, n.data_count-n.ensures, t.if-n-le1024.true))
 
-same-length-11 : tie.Need-same-length-11
+same-length-11 : tie.Need-shape_of-res-then-n-le1024
 same-length-11 c = search rules
 
-same-length-12 : tie.Need-same-length-12
+same-length-12 : tie.Need-shape_of-syndrome-then-n-le1024
 same-length-12 c = search rules
 
-same-length-13 : tie.Need-same-length-13
+same-length-13 : tie.Need-shape_of-difference-then-n-le1024
 same-length-13 c = search rules
 
-same-length-14 : tie.Need-same-length-14
+same-length-14 : tie.Need-shape_of-margins-then-n-le1024
 same-length-14 c = search rules
 
-same-length-15 : tie.Need-same-length-15
+same-length-15 : tie.Need-shape_of-counts-then-n-le1024
 same-length-15 c = search rules
 
-returns-3 : tie.Need-returns-3
-returns-3 c = let d = c.before.before.before.before.before.before.before.before.before.before in finished d.before.before.before.before.before.before.before.before.before _ d.decode-medium.ensures
+returns-3 : tie.Need-returns-then-n-le1024
+returns-3 c = let d = c.before.before.before.before.before.before.before.before.before.before in finished d.before.before.before.before.before.before.before.before.before _ d.decode_medium.ensures
 
-decode-large-requires : tie.Need-decode-large-requires
+decode-large-requires : tie.Need-decode_large-requires
 decode-large-requires c κs = let n = c.before.before.before.before.before.before.before in (taken n.before, data-high n.before)
 
-same-length-16 : tie.Need-same-length-16
+same-length-16 : tie.Need-shape_of-res
 same-length-16 c = search rules
 
-same-length-17 : tie.Need-same-length-17
+same-length-17 : tie.Need-shape_of-syndrome
 same-length-17 c = search rules
 
-same-length-18 : tie.Need-same-length-18
+same-length-18 : tie.Need-shape_of-difference
 same-length-18 c = search rules
 
-same-length-19 : tie.Need-same-length-19
+same-length-19 : tie.Need-shape_of-margins
 same-length-19 c = search rules
 
-same-length-20 : tie.Need-same-length-20
+same-length-20 : tie.Need-shape_of-counts
 same-length-20 c = search rules
 
-returns-4 : tie.Need-returns-4
-returns-4 c = let d = c.before.before.before.before.before.before.before.before.before.before in finished d.before.before.before.before.before.before.before.before.before _ d.decode-large.ensures
+returns-4 : tie.Need-returns
+returns-4 c = let d = c.before.before.before.before.before.before.before.before.before.before in finished d.before.before.before.before.before.before.before.before.before _ d.decode_large.ensures
 
-pub decode-few-spec : {M : Type 1} → statement M
-decode-few-spec =
+pub decode_few_spec : {M : Type 1} → statement M
+decode_few_spec =
     tie.close
     (tie.spec
     slice-aggregate-read-positions

@@ -19,65 +19,65 @@ abbrev Holds : tie.Start → List ℕ → Outcome (List ℕ) → Type 0
 Holds s ps o =
     let a = s.args in
     o ≡ wide_explain_outcome (wide_code wide32 a.k a.b ps) a.threshold a.symbol
-    (state_by a.result.now a.syndrome.now a.difference.now) a.answer.now
+    (state_by a.res.now a.syndrome.now a.difference.now) a.answer.now
 
 -- what holds with the positions that are read, xs, holds with those of the table
 whole : (s : tie.Start) (xs : List ℕ) → xs ≡ kept (positions_of s.args.table.now) → (o : Outcome (List ℕ)) → Holds s xs o → Holds s (positions_of s.args.table.now) o
 whole s xs e o h =
     let a = s.args in
     h ∙ explain_whole wide32 4294967296 a.k a.b xs (positions_of a.table.now) e a.threshold a.symbol
-    (state_by a.result.now a.syndrome.now a.difference.now) a.answer.now
+    (state_by a.res.now a.syndrome.now a.difference.now) a.answer.now
 
-slice-aggregate-read-positions : tie.Need-slice-aggregate-read-positions
+slice-aggregate-read-positions : tie.Need-slice_bounds-read_positions-end
 slice-aggregate-read-positions c = search rules
 
-read-positions-requires : tie.Need-read-positions-requires
+read-positions-requires : tie.Need-read_positions-n-requires
 read-positions-requires c κs = search rules
 
-array-share-prefix-few : tie.Need-array-share-prefix-few
+array-share-prefix-few : tie.Need-slice_bounds-few-end
 array-share-prefix-few c = search rules
 
-slice-aggregate-explain-with : tie.Need-slice-aggregate-explain-with
+slice-aggregate-explain-with : tie.Need-slice_bounds-explain_with-end
 slice-aggregate-explain-with c = sym (length-take-le _ _ (omega arith))
 
-explain-with-requires : tie.Need-explain-with-requires
+explain-with-requires : tie.Need-explain_with-requires
 explain-with-requires c κs = search rules
 
-same_length : tie.Need-same-length
+same_length : tie.Need-shape_of-answer-then-table-le64
 same_length c = search rules
 
-returns : tie.Need-returns
+returns : tie.Need-returns-then-table-le64
 returns c =
     let p = c.before.before in
     let r = p.before.before.before.before in
-    whole r.before.before.before.before.before.before.before.before _ r.read-positions.ensures.1 _ p.explain-with.ensures
+    whole r.before.before.before.before.before.before.before.before _ r.read_positions-n.ensures.1 _ p.explain_with.ensures
 
-slice-aggregate-read-positions-2 : tie.Need-slice-aggregate-read-positions-2
+slice-aggregate-read-positions-2 : tie.Need-slice_bounds-read_positions-end-2
 slice-aggregate-read-positions-2 c = search rules
 
-read-positions-requires-2 : tie.Need-read-positions-requires-2
+read-positions-requires-2 : tie.Need-read_positions-n-requires-2
 read-positions-requires-2 c κs = search rules
 
-array-share-prefix-positions : tie.Need-array-share-prefix-positions
+array-share-prefix-positions : tie.Need-slice_bounds-positions-end
 array-share-prefix-positions c = search rules
 
-slice-aggregate-explain-with-2 : tie.Need-slice-aggregate-explain-with-2
+slice-aggregate-explain-with-2 : tie.Need-slice_bounds-explain_with-end-2
 slice-aggregate-explain-with-2 c = sym (length-take-le _ _ (omega arith))
 
-explain-with-requires-2 : tie.Need-explain-with-requires-2
+explain-with-requires-2 : tie.Need-explain_with-requires-2
 explain-with-requires-2 c κs = search rules
 
-same-length-2 : tie.Need-same-length-2
+same-length-2 : tie.Need-shape_of-answer
 same-length-2 c = search rules
 
-returns-2 : tie.Need-returns-2
+returns-2 : tie.Need-returns
 returns-2 c =
     let p = c.before.before in
     let r = p.before.before.before.before in
-    whole r.before.before.before.before.before.before.before.before _ r.read-positions2.ensures.1 _ p.explain-with2.ensures
+    whole r.before.before.before.before.before.before.before.before _ r.read_positions-n-2.ensures.1 _ p.explain_with-2.ensures
 
-pub explain-spec : {M : Type 1} → statement M
-explain-spec =
+pub explain_spec : {M : Type 1} → statement M
+explain_spec =
     tie.close
     (tie.spec
     slice-aggregate-read-positions

@@ -16,7 +16,7 @@ use Rattle.c_passes32.proofs.pass_once.Statement.{statement}
 use Rattle.c_passes32.proofs.pass_once.Tie as tie
 
 -- the start, from where the result is read; the code, and the symbols that the bytes stand for
-abbrev start : tie.After-read-symbols-arg → tie.Start
+abbrev start : tie.After-read_symbols-arg-1 → tie.Start
 start f = f.before.before.before.before.before.before.before.before.before.before.before
 
 abbrev code : tie.Start → Code
@@ -28,66 +28,66 @@ symbols b = state_read (symbol_size wide32) (state_by b.args.res.now b.args.synd
 usable : (b : tie.Start) → Usable (code b)
 usable b = table_usable (code b) b.requires.0.taken.table
 
-read-symbols-requires : tie.Need-read-symbols-requires
+read-symbols-requires : tie.Need-read_symbols-requires
 read-symbols-requires c κs =
     let b = start c in
-    (omega (arith, b.pre.0.len_result, b.pre.4), omega (arith, b.pre.4, (usable b).table.sizes.data-high))
+    (omega (arith, b.requires.0.len_result, b.requires.4), omega (arith, b.requires.4, (usable b).table.sizes.data-high))
 
-read-symbols-requires-2 : tie.Need-read-symbols-requires-2
+read-symbols-requires-2 : tie.Need-read_symbols-requires-2
 read-symbols-requires-2 c κs =
     let b = start c.before.before.before.before in
-    (omega (arith, b.pre.0.len_syndrome, b.pre.5), omega (arith, b.pre.5, (usable b).table.sizes.k_high))
+    (omega (arith, b.requires.0.len_syndrome, b.requires.5), omega (arith, b.requires.5, (usable b).table.sizes.k_high))
 
-read-symbols-requires-3 : tie.Need-read-symbols-requires-3
+read-symbols-requires-3 : tie.Need-read_symbols-requires-3
 read-symbols-requires-3 c κs =
     let b = start c.before.before.before.before.before.before.before.before in
-    (omega (arith, b.pre.0.len_difference, b.pre.6), omega (arith, b.pre.6, (usable b).table.sizes.data-high))
+    (omega (arith, b.requires.0.len_difference, b.requires.6), omega (arith, b.requires.6, (usable b).table.sizes.data-high))
 
 -- where the result is read, from where D is; what is read
-abbrev opening : tie.After-read-symbols3 → tie.After-read-symbols-arg
+abbrev opening : tie.After-read_symbols-3 → tie.After-read_symbols-arg-1
 opening z = z.before.before.before.before.before.before.before.before.before
 
-loaded : (z : tie.After-read-symbols3)
-    → state_by z.before.before.before.before.before.before.before.before.read-symbols.new.1.0 z.before.before.before.before.read-symbols2.new.1.0 z.read-symbols3.new.1.0
+loaded : (z : tie.After-read_symbols-3)
+    → state_by z.before.before.before.before.before.before.before.before.read_symbols.new.out z.before.before.before.before.read_symbols-2.new.out z.read_symbols-3.new.out
     ≡ symbols (start (opening z))
-loaded z = λ i. state_by (z.before.before.before.before.before.before.before.before.read-symbols.ensures i) (z.before.before.before.before.read-symbols2.ensures i) (z.read-symbols3.ensures i)
+loaded z = λ i. state_by (z.before.before.before.before.before.before.before.before.read_symbols.ensures i) (z.before.before.before.before.read_symbols-2.ensures i) (z.read_symbols-3.ensures i)
 
-cast-t23 : tie.Need-overflow-cast-t23
+cast-t23 : tie.Need-overflow_cast-thresholds
 cast-t23 c = search rules
 
-opened-requires : tie.Need-opened-requires
+opened-requires : tie.Need-opened-opened-requires
 opened-requires c κs = search rules
 
-slice-aggregate-run : tie.Need-slice-aggregate-run
+slice-aggregate-run : tie.Need-slice_bounds-run-end
 slice-aggregate-run c = search rules
 
-run-requires : tie.Need-run-requires
+run-requires : tie.Need-run-tally-requires
 run-requires c κs =
     let o = c.before.before.before.before.before.before in
     let z = c.before.before.before.before.before.before.before.before.before in
     let b = start (opening z) in
     let fit : State → Type 0 = Sized (code b).q (data_count (code b)) (check_count (code b)) in (
-      record { usable = usable b; bytes = omega arith; sized = subst fit (sym (loaded z)) b.pre.0.taken.sized },
+      record { usable = usable b; bytes = omega arith; sized = subst fit (sym (loaded z)) b.requires.0.taken.sized },
       omega arith,
-      ap (λ (t : Tally). t.changes) o.opened.ensures,
-      b.pre.1,
-      b.pre.2,
-      b.pre.3,
+      ap (λ (t : Tally). t.changes) o.opened-opened.ensures,
+      b.requires.1,
+      b.requires.2,
+      b.requires.3,
     )
 
-same_length : tie.Need-same-length
+same_length : tie.Need-shape_of-zeros
 same_length c = search rules
 
-same-length-2 : tie.Need-same-length-2
+same-length-2 : tie.Need-shape_of-marks
 same-length-2 c = search rules
 
-same-length-3 : tie.Need-same-length-3
-same-length-3 c = omega (arith, c.before.before.before.before.before.before.before.before.before.r2.given, c.before.before.before.before.before.before.before.before.before.before.before.before.before.before.before.before.before.before.before.before.before.before.before.before.before.before.before.r.given)
+same-length-3 : tie.Need-shape_of-r
+same-length-3 c = omega (arith, c.before.before.before.before.before.before.before.before.before.r-2-1.given, c.before.before.before.before.before.before.before.before.before.before.before.before.before.before.before.before.before.before.before.before.before.before.before.before.before.before.before.r-1.given)
 
-same-length-4 : tie.Need-same-length-4
+same-length-4 : tie.Need-shape_of-s
 same-length-4 c = search rules
 
-same-length-5 : tie.Need-same-length-5
+same-length-5 : tie.Need-shape_of-d
 same-length-5 c = search rules
 
 returns : tie.Need-returns
@@ -96,13 +96,13 @@ returns c =
     let o = run.before.before.before.before.before.before.before in
     let z = run.before.before.before.before.before.before.before.before.before.before in
     let b = start (opening z) in
-    let f = run.run.ensures.0 in (
+    let f = run.run-tally.ensures.0 in (
       once_state _ _ _ _ f ∙ ap (passed_state (code b) b.args.threshold) (loaded z),
-      once_changes _ _ _ _ f (ap (λ (t : Tally). t.changes) o.opened.ensures) ∙ ap (passed_changes (code b) b.args.threshold) (loaded z),
+      once_changes _ _ _ _ f (ap (λ (t : Tally). t.changes) o.opened-opened.ensures) ∙ ap (passed_changes (code b) b.args.threshold) (loaded z),
     )
 
-pub pass-once-spec : {M : Type 1} → statement M
-pass-once-spec =
+pub pass_once_spec : {M : Type 1} → statement M
+pass_once_spec =
     tie.close
     (tie.spec
     read-symbols-requires

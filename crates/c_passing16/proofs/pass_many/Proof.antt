@@ -19,7 +19,7 @@ use Rattle.c_passing16.proofs.pass_many.Statement.{statement}
 use Rattle.c_passing16.proofs.pass_many.Tie as tie
 
 -- the start, from where the positions are read; the code with positions xs, and what was lent
-abbrev start : tie.After-read-positions → tie.Start
+abbrev start : tie.After-read_positions-count → tie.Start
 start r = r.before.before.before.before.before.before.before
 
 abbrev code : tie.Start → List ℕ → Code
@@ -43,133 +43,133 @@ whole b xs e r x h =
     h ∙ sym (pass-left (code b xs) a.threshold (lent b) a.changes.now)
     ∙ pass_same wide16 (highest wide16) a.code.k a.code.b xs (positions_of a.table.now) e a.threshold (lent b) a.changes.now
 
-slice-aggregate-read-positions : tie.Need-slice-aggregate-read-positions
+slice-aggregate-read-positions : tie.Need-slice_bounds-read_positions-end
 slice-aggregate-read-positions c = search rules
 
-read-positions-requires : tie.Need-read-positions-requires
+read-positions-requires : tie.Need-read_positions-count-requires
 read-positions-requires c κs = search rules
 
-array-share-prefix-many : tie.Need-array-share-prefix-many
+array-share-prefix-many : tie.Need-slice_bounds-many-end
 array-share-prefix-many c = search rules
 
-slice-aggregate-positions : tie.Need-slice-aggregate-positions
+slice-aggregate-positions : tie.Need-slice_bounds-positions-end
 slice-aggregate-positions c = sym (length-take-le _ _ (omega arith))
 
-pass-number-requires : tie.Need-pass-number-requires
+pass-number-requires : tie.Need-pass_number-number-requires
 pass-number-requires c κs = search rules
 
 -- where the positions are read, from where the number is known; the positions
-abbrev reading : tie.After-pass-number → tie.After-read-positions
-reading p = p.before.before.before.before.before.before.before
+abbrev reading : tie.After-pass_number-number → tie.After-read_positions-count
+reading p = p.before.before.before
 
-abbrev read : tie.After-pass-number → List ℕ
-read p = take (reading p).read-positions.result (reading p).read-positions.new.1.0
+abbrev read : tie.After-pass_number-number → List ℕ
+read p = take (reading p).read_positions-count.result (reading p).read_positions-count.new.positions
 
-same_length : tie.Need-same-length
+same_length : tie.Need-shape_of-res-then-number-ne0
 same_length c = search rules
 
-same-length-2 : tie.Need-same-length-2
+same-length-2 : tie.Need-shape_of-syndrome-then-number-ne0
 same-length-2 c = search rules
 
-same-length-3 : tie.Need-same-length-3
+same-length-3 : tie.Need-shape_of-difference-then-number-ne0
 same-length-3 c = search rules
 
-same-length-4 : tie.Need-same-length-4
+same-length-4 : tie.Need-shape_of-changes-then-number-ne0
 same-length-4 c = search rules
 
-returns : tie.Need-returns
+returns : tie.Need-returns-then-number-ne0
 returns c =
     let p = c.before in
-    whole (start (reading p)) (read p) (reading p).read-positions.ensures.1 _ _ (left_as_lent _ _ _ _ p.pass-number.ensures c.if1.true)
+    whole (start (reading p)) (read p) (reading p).read_positions-count.ensures.1 _ _ (left_as_lent _ _ _ _ p.pass_number-number.ensures c.if-number-ne0.true)
 
 -- what it works on where it is not refused
-zero : (e : tie.Else1) → numberBy (start (reading e.before)) (read e.before) ≡ 0
-zero e = sym e.before.pass-number.ensures ∙ e.if1.false
+zero : (e : tie.Else-number-ne0) → numberBy (start (reading e.before)) (read e.before) ≡ 0
+zero e = sym e.before.pass_number-number.ensures ∙ e.if-number-ne0.false
 
-taken : (e : tie.Else1)
+taken : (e : tie.Else-number-ne0)
     → let b = start (reading e.before) in PassTakes (symbol_size wide16) (code b (read e.before)) b.args.threshold (lent b) b.args.changes.now
 taken e =
     let b = start (reading e.before) in
     pass_takes (symbol_size wide16) (omega arith) (code b (read e.before)) b.args.threshold (lent b) b.args.changes.now (zero e)
 
-data-high : (e : tie.Else1) → let a = (start (reading e.before)).args in a.code.b * a.code.k ≤ 4096
+data-high : (e : tie.Else-number-ne0) → let a = (start (reading e.before)).args in a.code.b * a.code.k ≤ 4096
 data-high e = (table_usable _ (taken e).taken.table).table.sizes.data-high
 
-data-count-requires : tie.Need-data-count-requires
+data-count-requires : tie.Need-data_count-n-requires
 data-count-requires c κs = omega (arith, data-high c)
 
 -- done, from the place where its number was 0
-finished : (e : tie.Else1) (x : Passed (List ℕ))
+finished : (e : tie.Else-number-ne0) (x : Passed (List ℕ))
     → (let b = start (reading e.before) in x ≡ passed_bytes (symbol_size wide16) (code b (read e.before)) b.args.threshold (lent b))
     → let b = start (reading e.before) in
     let a = b.args in
     record { number = 0; left = x } ≡ wide_pass_outcome (code b (positions_of a.table.now)) a.threshold (lent b) a.changes.now
 finished e x h =
     let p = e.before in
-    whole (start (reading p)) (read p) (reading p).read-positions.ensures.1 0 x (left_as_done _ _ _ x (sym (zero e)) h)
+    whole (start (reading p)) (read p) (reading p).read_positions-count.ensures.1 0 x (left_as_done _ _ _ x (sym (zero e)) h)
 
-pass-small-requires : tie.Need-pass-small-requires
+pass-small-requires : tie.Need-pass_small-requires
 pass-small-requires c κs =
     let t = c.before.before.before.before in
     let n = t.before in
-    (taken n.before, omega (arith, n.data-count.ensures, t.if2.true))
+    (taken n.before, omega (arith, n.data_count-n.ensures, t.if-n-le128.true))
 
-same-length-5 : tie.Need-same-length-5
+same-length-5 : tie.Need-shape_of-res-then-n-le128
 same-length-5 c = search rules
 
-same-length-6 : tie.Need-same-length-6
+same-length-6 : tie.Need-shape_of-syndrome-then-n-le128
 same-length-6 c = search rules
 
-same-length-7 : tie.Need-same-length-7
+same-length-7 : tie.Need-shape_of-difference-then-n-le128
 same-length-7 c = search rules
 
-same-length-8 : tie.Need-same-length-8
+same-length-8 : tie.Need-shape_of-changes-then-n-le128
 same-length-8 c = search rules
 
-returns-2 : tie.Need-returns-2
-returns-2 c = let d = c.before.before.before.before.before.before.before.before in finished d.before.before.before.before.before.before.before _ d.pass-small.ensures
+returns-2 : tie.Need-returns-then-n-le128
+returns-2 c = let d = c.before.before.before.before.before.before.before.before in finished d.before.before.before.before.before.before.before _ d.pass_small.ensures
 
-pass-medium-requires : tie.Need-pass-medium-requires
+pass-medium-requires : tie.Need-pass_medium-requires
 pass-medium-requires c κs =
     let t = c.before.before.before.before in
     let n = t.before.before in
-    (taken n.before, omega (arith, n.data-count.ensures, t.if3.true))
+    (taken n.before, omega (arith, n.data_count-n.ensures, t.if-n-le1024.true))
 
-same-length-9 : tie.Need-same-length-9
+same-length-9 : tie.Need-shape_of-res-then-n-le1024
 same-length-9 c = search rules
 
-same-length-10 : tie.Need-same-length-10
+same-length-10 : tie.Need-shape_of-syndrome-then-n-le1024
 same-length-10 c = search rules
 
-same-length-11 : tie.Need-same-length-11
+same-length-11 : tie.Need-shape_of-difference-then-n-le1024
 same-length-11 c = search rules
 
-same-length-12 : tie.Need-same-length-12
+same-length-12 : tie.Need-shape_of-changes-then-n-le1024
 same-length-12 c = search rules
 
-returns-3 : tie.Need-returns-3
-returns-3 c = let d = c.before.before.before.before.before.before.before.before in finished d.before.before.before.before.before.before.before.before _ d.pass-medium.ensures
+returns-3 : tie.Need-returns-then-n-le1024
+returns-3 c = let d = c.before.before.before.before.before.before.before.before in finished d.before.before.before.before.before.before.before.before _ d.pass_medium.ensures
 
-pass-large-requires : tie.Need-pass-large-requires
+pass-large-requires : tie.Need-pass_large-requires
 pass-large-requires c κs = let n = c.before.before.before.before.before.before in (taken n.before, data-high n.before)
 
-same-length-13 : tie.Need-same-length-13
+same-length-13 : tie.Need-shape_of-res
 same-length-13 c = search rules
 
-same-length-14 : tie.Need-same-length-14
+same-length-14 : tie.Need-shape_of-syndrome
 same-length-14 c = search rules
 
-same-length-15 : tie.Need-same-length-15
+same-length-15 : tie.Need-shape_of-difference
 same-length-15 c = search rules
 
-same-length-16 : tie.Need-same-length-16
+same-length-16 : tie.Need-shape_of-changes
 same-length-16 c = search rules
 
-returns-4 : tie.Need-returns-4
-returns-4 c = let d = c.before.before.before.before.before.before.before.before in finished d.before.before.before.before.before.before.before.before _ d.pass-large.ensures
+returns-4 : tie.Need-returns
+returns-4 c = let d = c.before.before.before.before.before.before.before.before in finished d.before.before.before.before.before.before.before.before _ d.pass_large.ensures
 
-pub pass-many-spec : {M : Type 1} → statement M
-pass-many-spec =
+pub pass_many_spec : {M : Type 1} → statement M
+pass_many_spec =
     tie.close
     (tie.spec
     slice-aggregate-read-positions

@@ -13,7 +13,7 @@ use Rattle.c_passing32.proofs.pass.Statement.{statement}
 use Rattle.c_passing32.proofs.pass.Tie as tie
 
 -- the start, from where the buffer for the positions is chosen; the code, and what was lent
-abbrev start : tie.After-slice-known4 → tie.Start
+abbrev start : tie.After-slice_known-4-1 → tie.Start
 start c = c.before.before.before.before.before
 
 abbrev code : tie.Start → Code
@@ -28,41 +28,41 @@ holds : (b : tie.Start) (r : ℕ) (x : Passed (List ℕ)) → record { number = 
     × (r ≡ 0 → PassFalls (code b) b.args.threshold (state_read (symbol_size wide32) (lent b)))
 holds b r x e = pass_holds (code b) b.args.threshold (lent b) b.args.changes.now r x e
 
-pass-few-requires : tie.Need-pass-few-requires
+pass-few-requires : tie.Need-pass_few-requires
 pass-few-requires c κs = search rules
 
-same_length : tie.Need-same-length
+same_length : tie.Need-shape_of-res-then-table-le64
 same_length c = search rules
 
-same-length-2 : tie.Need-same-length-2
+same-length-2 : tie.Need-shape_of-syndrome-then-table-le64
 same-length-2 c = search rules
 
-same-length-3 : tie.Need-same-length-3
+same-length-3 : tie.Need-shape_of-difference-then-table-le64
 same-length-3 c = search rules
 
-same-length-4 : tie.Need-same-length-4
+same-length-4 : tie.Need-shape_of-changes-then-table-le64
 same-length-4 c = search rules
 
-returns : tie.Need-returns
-returns c = let d = c.before.before.before.before.before.before.before.before in holds (start d.before.before.before.before.before.before) _ _ d.pass-few.ensures
+returns : tie.Need-returns-then-table-le64
+returns c = let d = c.before.before.before.before.before.before.before.before in holds (start d.before.before.before.before.before.before) _ _ d.pass_few.ensures
 
-pass-many-requires : tie.Need-pass-many-requires
+pass-many-requires : tie.Need-pass_many-requires
 pass-many-requires c κs = search rules
 
-same-length-5 : tie.Need-same-length-5
+same-length-5 : tie.Need-shape_of-res
 same-length-5 c = search rules
 
-same-length-6 : tie.Need-same-length-6
+same-length-6 : tie.Need-shape_of-syndrome
 same-length-6 c = search rules
 
-same-length-7 : tie.Need-same-length-7
+same-length-7 : tie.Need-shape_of-difference
 same-length-7 c = search rules
 
-same-length-8 : tie.Need-same-length-8
+same-length-8 : tie.Need-shape_of-changes
 same-length-8 c = search rules
 
-returns-2 : tie.Need-returns-2
-returns-2 c = let d = c.before.before.before.before.before.before.before.before in holds (start d.before.before.before.before.before.before) _ _ d.pass-many.ensures
+returns-2 : tie.Need-returns
+returns-2 c = let d = c.before.before.before.before.before.before.before.before in holds (start d.before.before.before.before.before.before) _ _ d.pass_many.ensures
 
 pub pass_spec : {M : Type 1} → statement M
 pass_spec =

@@ -18,7 +18,7 @@ use Rattle.c_receiver32.proofs.receive.Statement.{statement}
 use Rattle.c_receiver32.proofs.receive.Tie as tie
 
 -- the start, from where the data is read; the code, and the page's symbols
-abbrev start : tie.After-read-symbols-arg → tie.Start
+abbrev start : tie.After-read_symbols-arg-1 → tie.Start
 start f = f.before.before.before.before.before.before.before.before.before
 
 abbrev code : tie.Start → Code
@@ -47,29 +47,29 @@ sized b =
       checks-few = omega (arith, o.len_syndrome, z.k_high);
     }
 
-mul-n : tie.Need-overflow-mul-n
+mul-n : tie.Need-overflow_mul-n
 mul-n c = search rules
 
-slice-aggregate-read-symbols : tie.Need-slice-aggregate-read-symbols
-slice-aggregate-read-symbols c = sym (length-take-le _ _ (omega (arith, (sized (start c)).page)))
+slice-aggregate-read-symbols : tie.Need-slice_bounds-read_symbols-end
+slice-aggregate-read-symbols c = sym (length-take-le _ _ (omega (arith, (sized c.before.before.before.before.before.before.before.before).page)))
 
-read-symbols-requires : tie.Need-read-symbols-requires
-read-symbols-requires c κs = let z = sized (start c.before) in (length-take-le _ _ (omega (arith, z.page)), omega (arith, z.data-few))
+read-symbols-requires : tie.Need-read_symbols-requires
+read-symbols-requires c κs = let z = sized (start c) in (length-take-le _ _ (omega (arith, z.page)), omega (arith, z.data-few))
 
 -- where the data is read, from where the checks are; what is read
-abbrev first : tie.After-slice-known6 → tie.After-read-symbols
+abbrev first : tie.After-slice_known-6-1 → tie.After-read_symbols
 first c = c.before.before
 
-abbrev opening : tie.After-slice-known6 → tie.Start
-opening c = start (first c).before.before
+abbrev opening : tie.After-slice_known-6-1 → tie.Start
+opening c = start (first c).before
 
-sub-read-symbols : tie.Need-overflow-sub-read-symbols
+sub-read-symbols : tie.Need-slice_bounds-read_symbols-count
 sub-read-symbols c = omega (arith, (sized (opening c)).page)
 
-part-read-symbols-start : tie.Need-slice-bounds-read-symbols-start
+part-read-symbols-start : tie.Need-slice_bounds-read_symbols-start
 part-read-symbols-start c = omega (arith, (sized (opening c)).page)
 
-part-read-symbols-end : tie.Need-slice-bounds-read-symbols-end
+part-read-symbols-end : tie.Need-slice_bounds-read_symbols-end-2
 part-read-symbols-end c = search rules
 
 rest : (b : tie.Start) → let n = length b.args.r.now * symbol_size wide32 in let page = b.args.page.now in take (length page - n) (drop n page) ≡ drop n page
@@ -78,55 +78,55 @@ rest b =
     let page : List ℕ = b.args.page.now in
     take_all (length page - n) (drop n page) (omega (arith, length-drop n page))
 
-read-symbols-requires-2 : tie.Need-read-symbols-requires-2
+read-symbols-requires-2 : tie.Need-read_symbols-requires-2
 read-symbols-requires-2 c κs =
     let b = opening c.before.before in
     let n : ℕ = length b.args.r.now * symbol_size wide32 in
     (ap length (rest b) ∙ length-drop n b.args.page.now ∙ omega (arith, (sized b).page), omega (arith, (sized b).checks-few))
 
-loaded : (z : tie.After-read-symbols2)
+loaded : (z : tie.After-read_symbols-2)
     → let g = z.before.before.before in
-    (first g).read-symbols.new.1.0 ++ z.read-symbols2.new.1.0 ≡ symbols (opening g)
+    (first g).read_symbols.new.out ++ z.read_symbols-2.new.out ≡ symbols (opening g)
 loaded z =
     let g = z.before.before.before in
     let b = opening g in
     let w : ℕ = symbol_size wide32 in
-    let f = (first g).before.before in
-    (λ i. (first g).read-symbols.ensures i ++ (z.read-symbols2.ensures ∙ ap (symbols_of w) (rest b)) i)
+    let f = (first g).before in
+    (λ i. (first g).read_symbols.ensures i ++ (z.read_symbols-2.ensures ∙ ap (symbols_of w) (rest b)) i)
     ∙ page_parts w (omega arith) (length b.args.r.now) (length b.args.s.now) b.args.page.now
-    (λ i. omega (arith, f.before.before.before.before.before.before.before.shared-slice-known2.given i)) (sized b).page
+    (λ i. omega (arith, f.before.before.before.before.before.before.before.shared_slice_known-2-1.given i)) (sized b).page
 
-slice-relend-prefix-decode-state : tie.Need-slice-relend-prefix-decode-state
+slice-relend-prefix-decode-state : tie.Need-slice_bounds-decode_state-end
 slice-relend-prefix-decode-state c = omega (arith, (sized (opening c.before.before.before.before.before.before)).marks)
 
-slice-aggregate-decode-state : tie.Need-slice-aggregate-decode-state
+slice-aggregate-decode-state : tie.Need-slice_bounds-decode_state-end-2
 slice-aggregate-decode-state c = sym (length-take-le _ _ (omega (arith, (sized (opening c.before.before.before.before.before.before.before)).marks)))
 
-decode-state-requires : tie.Need-decode-state-requires
+decode-state-requires : tie.Need-decode_state-requires
 decode-state-requires c κs =
     let z = c.before.before.before.before.before.before.before in
     let g = z.before.before.before in
     let b = opening g in
     let a = b.args in (
-      taken_loaded (code b) (symbols b) a.r.now a.s.now a.d.now _ _ (loaded z) (omega (arith, g.before.r.given)) (omega (arith, c.before.before.before.before.before.before.s.given)) a.thresholds.now b.pre.0,
-      b.pre.1,
-      b.pre.2,
-      length-take-le _ _ (omega (arith, (sized b).marks)) ∙ b.pre.0.opens.len_syndrome,
+      taken_loaded (code b) (symbols b) a.r.now a.s.now a.d.now _ _ (loaded z) (omega (arith, g.before.r-1.given)) (omega (arith, c.before.before.before.before.before.before.s-1.given)) a.thresholds.now b.requires.0,
+      b.requires.1,
+      b.requires.2,
+      length-take-le _ _ (omega (arith, (sized b).marks)) ∙ b.requires.0.opens.len_syndrome,
     )
 
-same_length : tie.Need-same-length
+same_length : tie.Need-shape_of-zeros
 same_length c = search rules
 
-same-length-2 : tie.Need-same-length-2
+same-length-2 : tie.Need-shape_of-marks
 same-length-2 c = search rules
 
-same-length-3 : tie.Need-same-length-3
+same-length-3 : tie.Need-shape_of-r
 same-length-3 c = search rules
 
-same-length-4 : tie.Need-same-length-4
+same-length-4 : tie.Need-shape_of-s
 same-length-4 c = search rules
 
-same-length-5 : tie.Need-same-length-5
+same-length-5 : tie.Need-shape_of-d
 same-length-5 c = search rules
 
 returns : tie.Need-returns
@@ -134,10 +134,10 @@ returns c =
     let d = c.before.before.before.before.before.before.before.before.before.before in
     let z = d.before.before.before.before.before.before.before.before in
     let b = opening z.before.before.before in
-    (d.decode-state.ensures.0 ∙ ap (decoded (code b) b.args.thresholds.now) (loaded z), d.decode-state.ensures.1)
+    (d.decode_state.ensures.0 ∙ ap (decoded (code b) b.args.thresholds.now) (loaded z), d.decode_state.ensures.1)
 
-pub receive-spec : {M : Type 1} → statement M
-receive-spec =
+pub receive_spec : {M : Type 1} → statement M
+receive_spec =
     tie.close
     (tie.spec
     mul-n

@@ -19,7 +19,7 @@ use Rattle.c_sized32.proofs.decode_medium.Statement.{statement}
 use Rattle.c_sized32.proofs.decode_medium.Tie as tie
 
 -- the start, from where the data symbols are counted; the code, and the page's symbols
-abbrev start : tie.After-data-count → tie.Start
+abbrev start : tie.After-data_count-n → tie.Start
 start n = n.before.before.before.before.before.before.before.before.before
 
 abbrev code : tie.Start → Code
@@ -29,81 +29,81 @@ abbrev symbols : tie.Start → List ℕ
 symbols b = symbols_of (symbol_size wide32) b.args.page.now
 
 -- the buffers are large enough
-data-few : (n : tie.After-data-count) → n.data-count.result ≤ 1024
-data-few n = omega (arith, n.data-count.ensures, (start n).requires.1)
+data-few : (n : tie.After-data_count-n) → n.data_count-n.result ≤ 1024
+data-few n = omega (arith, n.data_count-n.ensures, (start n).requires.1)
 
-checks-few : (n : tie.After-data-count) → (start n).args.code.k ≤ 1024
+checks-few : (n : tie.After-data_count-n) → (start n).args.code.k ≤ 1024
 checks-few n =
     let b = start n in
-    omega (arith, mul-le-mul_right b.args.code.k b.pre.0.taken.opens.usable.table.sizes.b_low, b.pre.1)
+    omega (arith, mul-le-mul_right b.args.code.k b.requires.0.taken.opens.usable.table.sizes.b_low, b.requires.1)
 
-data-count-requires : tie.Need-data-count-requires
+data-count-requires : tie.Need-data_count-n-requires
 data-count-requires c κs = search rules
 
-array-borrow-prefix-few : tie.Need-array-borrow-prefix-few
+array-borrow-prefix-few : tie.Need-slice_bounds-few-end
 array-borrow-prefix-few c = omega (arith, data-few c)
 
-slice-aggregate-zeros : tie.Need-slice-aggregate-zeros
+slice-aggregate-zeros : tie.Need-slice_bounds-zeros-end
 slice-aggregate-zeros c = sym (length-take-le _ _ (omega (arith, data-few c.before)))
 
-array-borrow-prefix-fewer : tie.Need-array-borrow-prefix-fewer
+array-borrow-prefix-fewer : tie.Need-slice_bounds-fewer-end
 array-borrow-prefix-fewer c = omega (arith, data-few c.before)
 
-slice-aggregate-marks : tie.Need-slice-aggregate-marks
+slice-aggregate-marks : tie.Need-slice_bounds-marks-end
 slice-aggregate-marks c = sym (length-take-le _ _ (omega (arith, data-few c.before.before)))
 
-array-borrow-prefix-first : tie.Need-array-borrow-prefix-first
+array-borrow-prefix-first : tie.Need-slice_bounds-first-end
 array-borrow-prefix-first c = omega (arith, data-few c.before.before)
 
-slice-aggregate-r : tie.Need-slice-aggregate-r
+slice-aggregate-r : tie.Need-slice_bounds-r-end
 slice-aggregate-r c = sym (length-take-le _ _ (omega (arith, data-few c.before.before.before)))
 
-array-borrow-prefix-second : tie.Need-array-borrow-prefix-second
+array-borrow-prefix-second : tie.Need-slice_bounds-second-end
 array-borrow-prefix-second c = omega (arith, checks-few c.before.before.before)
 
-slice-aggregate-s : tie.Need-slice-aggregate-s
+slice-aggregate-s : tie.Need-slice_bounds-s-end
 slice-aggregate-s c = sym (length-take-le _ _ (omega (arith, checks-few c.before.before.before.before)))
 
-array-borrow-prefix-third : tie.Need-array-borrow-prefix-third
+array-borrow-prefix-third : tie.Need-slice_bounds-third-end
 array-borrow-prefix-third c = omega (arith, data-few c.before.before.before.before)
 
-slice-aggregate-d : tie.Need-slice-aggregate-d
+slice-aggregate-d : tie.Need-slice_bounds-d-end
 slice-aggregate-d c = sym (length-take-le _ _ (omega (arith, data-few c.before.before.before.before.before)))
 
-receive-requires : tie.Need-receive-requires
+receive-requires : tie.Need-receive-tally-requires
 receive-requires c κs =
     let n = c.before.before.before.before.before.before.before.before.before.before in
-    let e = n.data-count.ensures in (
+    let e = n.data_count-n.ensures in (
       taken_in (start n).requires.0.taken _ _ _ (length-take-le _ _ (omega (arith, data-few n)) ∙ e) (length-take-le _ _ (omega (arith, checks-few n)))
           (length-take-le _ _ (omega (arith, data-few n)) ∙ e),
       length-take-le _ _ (omega (arith, data-few n)) ∙ e,
-      clear_front n.data-count.result _ (clear_made 1024),
+      clear_front n.data_count-n.result _ (clear_made 1024),
       length-take-le _ _ (omega (arith, data-few n)) ∙ e,
     )
 
 -- what is decoded
-abbrev counting : tie.After-receive → tie.After-data-count
+abbrev counting : tie.After-receive-tally → tie.After-data_count-n
 counting p = p.before.before.before.before.before.before.before.before.before.before.before
 
-made : (p : tie.After-receive)
+made : (p : tie.After-receive-tally)
     → let b = start (counting p) in
-    progress p.receive.new.1.1.1.1.1.1.0 p.receive.new.1.1.1.1.1.1.1.0 p.receive.new.1.1.1.1.1.1.1.1.0 p.receive.result
+    progress p.receive-tally.new.r p.receive-tally.new.s p.receive-tally.new.d p.receive-tally.result
     ≡ decoded (code b) b.args.thresholds.now (symbols b)
-made p = p.receive.ensures.0
+made p = p.receive-tally.ensures.0
 
-hand-back-requires : tie.Need-hand-back-requires
+hand-back-requires : tie.Need-hand_back-requires
 hand-back-requires c κs =
-    let p = c.before.before.before.before.before.before.before.before.before.before.before.before.before.before.before.before.before.before.before in
+    let p = c.before.before.before.before.before.before.before.before.before.before.before.before.before.before.before in
     let n = counting p in
     let b = start n in
-    let e = n.data-count.ensures in
-    let t = b.pre.0 in
+    let e = n.data_count-n.ensures in
+    let t = b.requires.0 in
     let o = t.taken.opens in
-    let whole : length p.receive.new.1.1.1.1.0 ≡ data_count (code b) = c.before.before.before.before.before.before.before.before.before.before.before.before.before.before.before.before.before.before.zeros.given ∙ length-take-le _ _ (omega (arith, data-few n)) ∙ e in (
+    let whole : length p.receive-tally.new.zeros ≡ data_count (code b) = c.before.before.before.before.before.before.before.before.before.before.before.before.before.before.zeros-1.given ∙ length-take-le _ _ (omega (arith, data-few n)) ∙ e in (
       left_by (code b) (symbols b) b.args.thresholds.now o.usable o.whole _ _ (made p) (omega (arith, whole))
-          (λ m. take_all (data_count (code b)) p.receive.new.1.1.1.1.0 (omega (arith, whole)) ∙ p.receive.ensures.1 m),
-      c.before.before.before.before.before.before.before.before.before.before.before.before.before.before.r.given ∙ length-take-le _ _ (omega (arith, data-few n)) ∙ e,
-      c.before.before.before.before.before.before.before.before.before.before.before.before.before.before.before.before.marks.given ∙ length-take-le _ _ (omega (arith, data-few n)) ∙ e,
+          (λ m. take_all (data_count (code b)) p.receive-tally.new.zeros (omega (arith, whole)) ∙ p.receive-tally.ensures.1 m),
+      c.before.before.before.before.before.before.before.before.before.before.r-1.given ∙ length-take-le _ _ (omega (arith, data-few n)) ∙ e,
+      c.before.before.before.before.before.before.before.before.before.before.before.before.marks-1.given ∙ length-take-le _ _ (omega (arith, data-few n)) ∙ e,
       t.len_result,
       t.len_syndrome,
       t.len_difference,
@@ -111,33 +111,33 @@ hand-back-requires c κs =
       t.len_counts,
     )
 
-same_length : tie.Need-same-length
+same_length : tie.Need-shape_of-res
 same_length c = search rules
 
-same-length-2 : tie.Need-same-length-2
+same-length-2 : tie.Need-shape_of-syndrome
 same-length-2 c = search rules
 
-same-length-3 : tie.Need-same-length-3
+same-length-3 : tie.Need-shape_of-difference
 same-length-3 c = search rules
 
-same-length-4 : tie.Need-same-length-4
+same-length-4 : tie.Need-shape_of-margins
 same-length-4 c = search rules
 
-same-length-5 : tie.Need-same-length-5
+same-length-5 : tie.Need-shape_of-counts
 same-length-5 c = search rules
 
 returns : tie.Need-returns
 unfolding decoded_bytes
 returns c =
     let h = c.before.before.before.before.before.before.before.before.before.before.before.before.before.before.before in
-    let p = h.before.before.before.before.before.before.before.before.before.before.before.before.before.before.before.before.before.before.before.before in
+    let p = h.before.before.before.before.before.before.before.before.before.before.before.before.before.before.before.before in
     let m = made p in
-    h.hand-back.ensures
+    h.hand_back.ensures
     ∙ (λ i. left_bytes (symbol_size wide32) (code (start (counting p))) (m i).state
     (record { passes = (m i).tally.passes; changes = (m i).tally.changes; start = (m i).tally.start; end = (m i).tally.end }))
 
-pub decode-medium-spec : {M : Type 1} → statement M
-decode-medium-spec =
+pub decode_medium_spec : {M : Type 1} → statement M
+decode_medium_spec =
     tie.close
     (tie.spec
     data-count-requires

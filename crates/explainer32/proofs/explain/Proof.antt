@@ -19,7 +19,7 @@ use Rattle.explainer32.proofs.explain.Statement.{statement}
 use Rattle.explainer32.proofs.explain.Tie as tie
 
 -- the start, from where the number is known; the call's code, and what is read
-abbrev start : tie.After-explain-answer → tie.Start
+abbrev start : tie.After-explain_answer-number → tie.Start
 start p = p.before.before.before.before.before.before.before
 
 abbrev code : tie.Start → Code
@@ -28,67 +28,67 @@ code b = wide_code wide32 b.args.k b.args.b b.args.positions.now
 abbrev read : tie.Start → State
 read b = state_by b.args.res.now b.args.syndrome.now b.args.difference.now
 
-data-count-requires : tie.Need-data-count-requires
+data-count-requires : tie.Need-data_count-n-requires
 data-count-requires c κs =
     let b = c.before.before.before.before in
     omega (arith, sizes_fit b.args.k b.args.b (omega (arith, b.ranges.k)) (omega (arith, b.ranges.b)))
 
-state-fits-requires : tie.Need-state-fits-requires
+state-fits-requires : tie.Need-state_fits-fits-requires
 state-fits-requires c κs = search rules
 
-explain-answer-requires : tie.Need-explain-answer-requires
+explain-answer-requires : tie.Need-explain_answer-number-requires
 explain-answer-requires c κs =
     let b = c.before.before.before.before.before.before in
     omega (arith, sizes_fit b.args.k b.args.b (omega (arith, b.ranges.k)) (omega (arith, b.ranges.b)))
 
 -- every symbol is below q
-low : (p : tie.After-explain-answer) → Below 4294967296 (state_symbols (read (start p)))
+low : (p : tie.After-explain_answer-number) → Below 4294967296 (state_symbols (read (start p)))
 low p =
     state_low 4294967296 (omega arith) (read (start p))
-    (λ i. omega (arith, p.before.before.before.before.before.shared-slice-known2.given i))
-    (λ i. omega (arith, p.before.before.before.before.shared-slice-known3.given i))
-    (λ i. omega (arith, p.before.before.before.shared-slice-known4.given i))
+    (λ i. omega (arith, p.before.before.before.before.before.shared_slice_known-2-1.given i))
+    (λ i. omega (arith, p.before.before.before.before.shared_slice_known-3-1.given i))
+    (λ i. omega (arith, p.before.before.before.shared_slice_known-4-1.given i))
 
 -- the number returned is explain's
-number : (p : tie.After-explain-answer)
+number : (p : tie.After-explain_answer-number)
     → let b = start p in
-    p.explain-answer.result ≡ explain_answer (code b) (state_fits (code b) (read b)) b.args.threshold b.args.symbol (read b)
+    p.explain_answer-number.result ≡ explain_answer (code b) (state_fits (code b) (read b)) b.args.threshold b.args.symbol (read b)
 number p =
     let b = start p in
     let a = b.args in
-    p.explain-answer.ensures (read b) (low p)
+    p.explain_answer-number.ensures (read b) (low p)
     ∙ ap (λ (f : Bool). explain_answer (code b) f a.threshold a.symbol (read b))
-    (p.before.state-fits.ensures
-    ∙ ap (λ (n : ℕ). eqb (length a.result.now) n && (eqb (length a.syndrome.now) a.k && eqb (length a.difference.now) n))
-    p.before.before.data-count.ensures)
+    (p.before.state_fits-fits.ensures
+    ∙ ap (λ (n : ℕ). eqb (length a.res.now) n && (eqb (length a.syndrome.now) a.k && eqb (length a.difference.now) n))
+    p.before.before.data_count-n.ensures)
 
-returns : tie.Need-returns
+returns : tie.Need-returns-then-number-ne0
 unfolding explain_outcome
-returns c = left_as_lent _ _ _ _ (number c.before) c.if1.true
+returns c = left_as_lent _ _ _ _ (number c.before) c.if-number-ne0.true
 
 -- what it works on where it is not refused
-taken : (c : tie.Else1) → let b = start c.before in PassTaken (code b) b.args.threshold (read b) × (b.args.symbol < data_count (code b))
+taken : (c : tie.Else-number-ne0) → let b = start c.before in PassTaken (code b) b.args.threshold (read b) × (b.args.symbol < data_count (code b))
 taken c =
     let b = start c.before in
     let a = b.args in
-    let t = explain_taken (code b) (state_fits (code b) (read b)) a.threshold a.symbol (read b) (sym (number c.before) ∙ c.if1.false) in
+    let t = explain_taken (code b) (state_fits (code b) (read b)) a.threshold a.symbol (read b) (sym (number c.before) ∙ c.if-number-ne0.false) in
     ((pass_taken (code b) true a.threshold (read b) t.0).1, t.1)
 
-tell-symbol-requires : tie.Need-tell-symbol-requires
+tell-symbol-requires : tie.Need-tell_symbol-told-requires
 tell-symbol-requires c κs =
     let t = taken c in
     (record { table = (table_usable _ t.0.table).table; len = t.0.sized.len_syndrome }, t.0.sized.len_difference, t.1)
 
-returns-2 : tie.Need-returns-2
+returns-2 : tie.Need-returns
 unfolding explain_outcome explained estimates
 returns-2 c =
     let done = c.before in
-    let e = c.tell-symbol.ensures in
-    left_as_done _ _ _ _ (sym done.if1.false ∙ number done.before)
+    let e = c.tell_symbol-told.ensures in
+    left_as_done _ _ _ _ (sym done.if-number-ne0.false ∙ number done.before)
     (ap (λ (t : Told). record { ground_number = t.ground_number; leader = t.leader; lead = t.lead; next = t.next; bits = t.bits }) e)
 
-pub explain-spec : {M : Type 1} → statement M
-explain-spec =
+pub explain_spec : {M : Type 1} → statement M
+explain_spec =
     tie.close
     (tie.spec
     data-count-requires
