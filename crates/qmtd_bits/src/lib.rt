@@ -1,5 +1,6 @@
 // The C calls on bit pages, exported: each is the function of its C form.
 #![tactic(auto)]
+
 ghost use Rattle.std.specs.Prelude.{◌≡◌, true};
 ghost use Rattle.model.specs.Code.{bit_pages, code_in};
 ghost use Rattle.model.specs.Decoder.{state_by, decoded_counts};

@@ -1,5 +1,6 @@
 // The C call that votes by lent counters, exported: it is the function of its C form.
 #![tactic(auto)]
+
 ghost use Rattle.std.specs.Prelude.{◌≡◌};
 ghost use Rattle.model.specs.Code.{code_of};
 ghost use Rattle.model.specs.Decoder.{state_by, decoded_counts};

@@ -1,5 +1,6 @@
 // The C calls on pages in blocks, each with an outer check, exported: each is the function of its C form.
 #![tactic(auto)]
+
 ghost use Rattle.std.specs.Prelude.{◌≡◌};
 ghost use Rattle.model.specs.Code.{code_of};
 ghost use Rattle.model.specs.Decoder.{state_by};

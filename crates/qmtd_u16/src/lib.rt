@@ -1,5 +1,6 @@
 // The C calls on symbols of two bytes, exported: each is the function of its C form.
 #![tactic(auto)]
+
 ghost use Rattle.std.specs.Prelude.{◌≡◌};
 ghost use Rattle.model.specs.Code.{wide16, wide_code};
 ghost use Rattle.model.specs.Decoder.{state_by, decoded_counts};
