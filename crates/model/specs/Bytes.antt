@@ -35,7 +35,7 @@ margin_bytes [] = []
 margin_bytes (m ∷ ms) = word_of (twos m) ++ margin_bytes ms
 
 -- "counts 16 bytes, in the C form only": the C form of decode also lends the counts, and the margins are 4 bytes a data symbol; `others` as in
--- `decodeOutcome`
+-- `decode_outcome`
 unfoldable pub c_decode_outcome : Code → Bool → List ℕ → List ℕ → State → List ℕ → List ℕ → Outcome (Decoded (List ℕ) (List ℕ))
 c_decode_outcome c others page thresholds lent margins counts =
     let st = decoded_state c thresholds page in

@@ -24,7 +24,7 @@ data Row : Type 0 where
   tested : (c : Code) (thresholds page : List ℕ) (margins : ℕ) (answer : ℕ) → Row
   -- open's number and the three buffers
   opening : (c : Code) (page : List ℕ) (given : Outcome State) → Row
-  -- a pass's number, buffers and changes, on buffers as it finds them; `others` as in `passOutcome`
+  -- a pass's number, buffers and changes, on buffers as it finds them; `others` as in `pass_outcome`
   passing : (c : Code) (others : Bool) (threshold : ℕ) (found : State) (given : Outcome (Passed ℕ)) → Row
   -- what a list of pass calls leaves, their changes, and the thresholds of those not refused
   called_in_turn : (c : Code) (calls : List PassCall) (found left : State) (changes : ℕ) (made : List ℕ) → Row

@@ -28,14 +28,14 @@ abbrev lent : tie.Start → State
 lent b = state_by b.args.res.now b.args.syndrome.now b.args.difference.now
 
 -- its number with positions xs
-abbrev numberBy : tie.Start → List ℕ → ℕ
-numberBy b xs = let a = b.args in decode_number (symbol_size wide16) (code b xs) a.page.now a.thresholds.now (lent b) a.margins.now a.counts.now
+abbrev numbered_by : tie.Start → List ℕ → ℕ
+numbered_by b xs = let a = b.args in decode_number (symbol_size wide16) (code b xs) a.page.now a.thresholds.now (lent b) a.margins.now a.counts.now
 
 -- from the outcome with the positions that are read, xs, that with those of the table
 whole : (b : tie.Start) (xs : List ℕ) → xs ≡ kept (positions_of b.args.table.now) → (r : ℕ) (x : Decoded (List ℕ) (List ℕ))
     → (let a = b.args in
     record { number = r; left = x }
-    ≡ outcome (numberBy b xs) (decoded_bytes (symbol_size wide16) (code b xs) a.thresholds.now a.page.now) (record { state = lent b; margins = a.margins.now; counts = a.counts.now }))
+    ≡ outcome (numbered_by b xs) (decoded_bytes (symbol_size wide16) (code b xs) a.thresholds.now a.page.now) (record { state = lent b; margins = a.margins.now; counts = a.counts.now }))
     → let a = b.args in
     record { number = r; left = x } ≡ wide_decode_outcome (code b (positions_of a.table.now)) a.page.now a.thresholds.now (lent b) a.margins.now a.counts.now
 whole b xs e r x h =
@@ -86,7 +86,7 @@ returns c =
     whole (start (reading p)) (read p) (reading p).read_positions-count.ensures.1 _ _ (left_as_lent _ _ _ _ p.decode_number-number.ensures c.if-number-ne0.true)
 
 -- what it works on where it is not refused
-zero : (e : tie.Else-number-ne0) → numberBy (start (reading e.before)) (read e.before) ≡ 0
+zero : (e : tie.Else-number-ne0) → numbered_by (start (reading e.before)) (read e.before) ≡ 0
 zero e = sym e.before.decode_number-number.ensures ∙ e.if-number-ne0.false
 
 taken : (e : tie.Else-number-ne0)

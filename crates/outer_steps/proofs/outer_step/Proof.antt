@@ -17,8 +17,8 @@ use Rattle.outer_steps.proofs.outer_step.Tie as tie
 abbrev code_at : tie.Start → Code
 code_at b = code_by b.args.code b.args.positions.now
 
-abbrev stateAt : tie.Start → State
-stateAt b = state_by b.args.res.now b.args.syndrome.now b.args.difference.now
+abbrev state_at : tie.Start → State
+state_at b = state_by b.args.res.now b.args.syndrome.now b.args.difference.now
 
 abbrev block_at : tie.Start → ℕ
 block_at b = b.args.at / b.args.block
@@ -27,7 +27,7 @@ abbrev start : tie.After-step_of-step → tie.Start
 start c = c.before.before.before.before.before
 
 -- where a step is found: what it is, and that its symbol and its sum are in range
-step : (c : tie.After-step_of-step) → c.step_of-step.result.sum ≢ 0 → Made (code_at (start c)) (start c).args.block (block_at (start c)) (stateAt (start c)) c.step_of-step.result c.step_of-step.ensures
+step : (c : tie.After-step_of-step) → c.step_of-step.result.sum ≢ 0 → Made (code_at (start c)) (start c).args.block (block_at (start c)) (state_at (start c)) c.step_of-step.result c.step_of-step.ensures
 step c n = made _ _ _ _ _ c.step_of-step.ensures n
 
 inside : (c : tie.After-step_of-step) → c.step_of-step.result.sum ≢ 0 → c.step_of-step.result.symbol < data_count (code_at (start c))
@@ -38,7 +38,7 @@ inside c n =
     omega (
       arith,
       (step c n).symbol_is,
-      weakest_in (code_at b) a.block f.fits (block_at b) (at_block (code_at b) a.block f.fits a.at f.whole f.inside) (block_sum a.code.q a.block a.res.now (block_at b)) (stateAt b),
+      weakest_in (code_at b) a.block f.fits (block_at b) (at_block (code_at b) a.block f.fits a.at f.whole f.inside) (block_sum a.code.q a.block a.res.now (block_at b)) (state_at b),
     )
 
 low : (c : tie.After-step_of-step) → c.step_of-step.result.sum ≢ 0 → c.step_of-step.result.sum < (start c).args.code.q
@@ -91,8 +91,8 @@ returns-2 c =
     let s = p.before.before.before.before in
     let b = start s in
     let x = s.step_of-step.result in
-    stepped_made (code_at b) _ _ (stateAt b) x s.step_of-step.ensures (step s p.before.before.if-step-eq0.false) _
-    (k.change_at.ensures ∙ ap (λ (q : Place). change b.args.code.q (checks_of (code_at b) q.symbol) q.symbol x.sum (stateAt b)) p.place_of-place.ensures)
+    stepped_made (code_at b) _ _ (state_at b) x s.step_of-step.ensures (step s p.before.before.if-step-eq0.false) _
+    (k.change_at.ensures ∙ ap (λ (q : Place). change b.args.code.q (checks_of (code_at b) q.symbol) q.symbol x.sum (state_at b)) p.place_of-place.ensures)
 
 pub outer_step_spec : {M : Type 1} → statement M
 outer_step_spec =

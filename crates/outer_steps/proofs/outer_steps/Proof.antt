@@ -33,8 +33,8 @@ start l = l.before.before.before.before.before.before.before.before
 abbrev code_at : tie.Start invariant-loop decreases-loop → Code
 code_at b = code_by b.args.code b.args.positions.now
 
-abbrev stateAt : tie.Start invariant-loop decreases-loop → State
-stateAt b = state_by b.args.res.now b.args.syndrome.now b.args.difference.now
+abbrev state_at : tie.Start invariant-loop decreases-loop → State
+state_at b = state_by b.args.res.now b.args.syndrome.now b.args.difference.now
 
 -- the state that a turn finds is ready
 ready : (l : tie.At-loop-at invariant-loop decreases-loop) → Ready (code_at (start l)) (state_by l.loop-at.res l.loop-at.syndrome l.loop-at.difference)
@@ -97,14 +97,14 @@ first-broken-requires : tie.Need-first_broken-at-requires invariant-loop decreas
 first-broken-requires c κs =
     let b = c.before.before.before.before.before.before in
     let d = c.bound_of-bound.ensures in
-    asked b _ 0 (stateAt b) b.requires.0 d.0 d.1 (zero-whole b) (omega arith)
+    asked b _ 0 (state_at b) b.requires.0 d.0 d.1 (zero-whole b) (omega arith)
 
 loop-holds : tie.Need-loop-at-init invariant-loop decreases-loop
 loop-holds c =
     let b = c.before.before.before.before.before.before.before in
     let L = b.args.block in
-    walked (code_at b) L b.requires.1 (stateAt b) (stepped b.args.res.now b.args.syndrome.now b.args.difference.now 0) 0 _ b.requires.0.sized.len_result (zero-whole b)
-    (steps_none (code_at b) L (stateAt b) ∙ ap (λ (n : ℕ). steps_to (code_at b) L n (stateAt b)) (sym (at_first (code_at b) L b.requires.1))) c.first_broken-at.ensures
+    walked (code_at b) L b.requires.1 (state_at b) (stepped b.args.res.now b.args.syndrome.now b.args.difference.now 0) 0 _ b.requires.0.sized.len_result (zero-whole b)
+    (steps_none (code_at b) L (state_at b) ∙ ap (λ (n : ℕ). steps_to (code_at b) L n (state_at b)) (sym (at_first (code_at b) L b.requires.1))) c.first_broken-at.ensures
 
 outer-step-requires : tie.Need-outer_step-steps-requires invariant-loop decreases-loop
 outer-step-requires c κs = let i = c.before.before.before in (ready i.before, next i)
@@ -122,12 +122,12 @@ again : (c : tie.After-slice_known-in-loop-at-3-1 invariant-loop decreases-loop)
     let l = (turn c).before in
     let b = start l in
     stepped x.outer_step-steps.new.res x.outer_step-steps.new.syndrome x.outer_step-steps.new.difference (l.loop-at.steps + x.outer_step-steps.result)
-    ≡ steps_to (code_at b) b.args.block ((l.loop-at.at + b.args.block) / b.args.block) (stateAt b)
+    ≡ steps_to (code_at b) b.args.block ((l.loop-at.at + b.args.block) / b.args.block) (state_at b)
 again c =
     let l = (turn c).before in
     let b = start l in
     steps_more _ _ _ _ (stepped l.loop-at.res l.loop-at.syndrome l.loop-at.difference l.loop-at.steps) _ l.loop-at.invariant.0 c.before.before.before.before.before.before.outer_step-steps.ensures
-    ∙ ap (λ (n : ℕ). steps_to (code_at b) b.args.block n (stateAt b)) (sym (number c))
+    ∙ ap (λ (n : ℕ). steps_to (code_at b) b.args.block n (state_at b)) (sym (number c))
 
 add-steps : tie.Need-overflow_add-steps invariant-loop decreases-loop
 add-steps c =
@@ -169,13 +169,13 @@ found : (c : tie.After-first_broken-at-in-loop-at invariant-loop decreases-loop)
     let b = start l in
     let L = b.args.block in
     let r = c.first_broken-at-in-loop-at.result in
-    (stepped x.outer_step-steps.new.res x.outer_step-steps.new.syndrome x.outer_step-steps.new.difference (l.loop-at.steps + x.outer_step-steps.result) ≡ steps_to (code_at b) L (r / L) (stateAt b))
+    (stepped x.outer_step-steps.new.res x.outer_step-steps.new.syndrome x.outer_step-steps.new.difference (l.loop-at.steps + x.outer_step-steps.result) ≡ steps_to (code_at b) L (r / L) (state_at b))
     × (r ≡ r / L * L)
     × (r ≤ data_count (code_at b))
 found c =
     let k = c.before in
     let b = start (turn k).before in
-    walked (code_at b) b.args.block b.requires.1 (stateAt b) _ _ _ (left k).sized.len_result (later k) (again k) c.first_broken-at-in-loop-at.ensures
+    walked (code_at b) b.args.block b.requires.1 (state_at b) _ _ _ (left k).sized.len_result (later k) (again k) c.first_broken-at-in-loop-at.ensures
 
 loop-less : tie.Need-loop-at-smaller invariant-loop decreases-loop
 loop-less c = let i = turn c.before in omega (arith, i.loop-at-test.true, (start i.before).requires.1.low, c.first_broken-at-in-loop-at.ensures.passed)
@@ -196,7 +196,7 @@ returns : tie.Need-returns invariant-loop decreases-loop
 returns c =
     let l = c.before in
     let b = start l in
-    l.loop-at.invariant.0 ∙ ap (λ (n : ℕ). steps_to (code_at b) b.args.block n (stateAt b))
+    l.loop-at.invariant.0 ∙ ap (λ (n : ℕ). steps_to (code_at b) b.args.block n (state_at b))
     (at_end (code_at b) b.args.block b.requires.1 l.loop-at.at (omega (arith, l.loop-at.invariant.2, c.loop-at-test.false, l.before.before.before.data_count-n.ensures)))
 
 pub outer_steps_spec : {M : Type 1} → statement M

@@ -23,8 +23,8 @@ use Rattle.outer_steps.proofs.step_of.Tie as tie
 abbrev code_at : tie.Start → Code
 code_at b = code_by b.args.code b.args.positions.now
 
-abbrev stateAt : tie.Start → State
-stateAt b = state_by b.args.res.now b.args.s.now b.args.d.now
+abbrev state_at : tie.Start → State
+state_at b = state_by b.args.res.now b.args.s.now b.args.d.now
 
 -- the block's number, and that it lies in the data
 abbrev block_at : tie.Start → ℕ
@@ -63,7 +63,7 @@ sum_is c =
     c.sum_of-sum.ensures ∙ sum_lent a.code.q a.block (block_at b) a.at a.res.now b.requires.1.whole (omega (arith, ends b, b.requires.0.sized.len_result))
 
 returns : tie.Need-returns-then-sum-eq0
-returns c = let s = c.before in let b = s.before.before.before.before.before.before in step_zero (code_at b) _ _ (stateAt b) _ (sum_is s) c.if-sum-eq0.true
+returns c = let s = c.before in let b = s.before.before.before.before.before.before in step_zero (code_at b) _ _ (state_at b) _ (sum_is s) c.if-sum-eq0.true
 
 sub-last : tie.Need-overflow_sub-last
 sub-last c = search rules
@@ -81,7 +81,7 @@ found : (c : tie.After-weakest_of-symbol)
 found c =
     let b = c.before.before.before.before.before.before.before.before in
     let a = b.args in
-    let least = least_is (a.at + a.block - 1 - a.at) (λ p. reliability_of (code_at b) c.before.before.sum_of-sum.result (stateAt b) (a.at + p)) (omega (arith, b.requires.1.fits.low)) in
+    let least = least_is (a.at + a.block - 1 - a.at) (λ p. reliability_of (code_at b) c.before.before.sum_of-sum.result (state_at b) (a.at + p)) (omega (arith, b.requires.1.fits.low)) in
     omega (arith, c.weakest_of-symbol.ensures a.res.now, least.below)
 
 reliability-at-requires : tie.Need-reliability_at-least-requires
@@ -101,7 +101,7 @@ abbrev begin : tie.After-reliability_at-other → tie.Start
 begin c = c.before.before.before.before.before.before.before.before.before.before
 
 abbrev rel : tie.After-reliability_at-other → ℕ → ℤ
-rel c = reliability_of (code_at (begin c)) c.before.before.before.before.sum_of-sum.result (stateAt (begin c))
+rel c = reliability_of (code_at (begin c)) c.before.before.before.before.sum_of-sum.result (state_at (begin c))
 
 abbrev last_of : tie.After-reliability_at-other → ℕ
 last_of c = (begin c).args.at + (begin c).args.block - 1
@@ -114,8 +114,8 @@ tested c =
     λ o. lt_z (sym x o) (sym y o)
 
 told : (c : tie.After-reliability_at-other)
-    → (lt_z (rel c c.before.before.weakest_of-symbol.result) (rel c (last_of c)) ≡ true → record { symbol = c.before.before.weakest_of-symbol.result; sum = c.before.before.before.before.sum_of-sum.result } ≡ step_of (code_at (begin c)) (begin c).args.block (block_at (begin c)) (stateAt (begin c)))
-    × (lt_z (rel c c.before.before.weakest_of-symbol.result) (rel c (last_of c)) ≡ false → record { symbol = 0; sum = 0 } ≡ step_of (code_at (begin c)) (begin c).args.block (block_at (begin c)) (stateAt (begin c)))
+    → (lt_z (rel c c.before.before.weakest_of-symbol.result) (rel c (last_of c)) ≡ true → record { symbol = c.before.before.weakest_of-symbol.result; sum = c.before.before.before.before.sum_of-sum.result } ≡ step_of (code_at (begin c)) (begin c).args.block (block_at (begin c)) (state_at (begin c)))
+    × (lt_z (rel c c.before.before.weakest_of-symbol.result) (rel c (last_of c)) ≡ false → record { symbol = 0; sum = 0 } ≡ step_of (code_at (begin c)) (begin c).args.block (block_at (begin c)) (state_at (begin c)))
 told c =
     let b = begin c in
     let a = b.args in
@@ -124,8 +124,8 @@ told c =
     let f = b.requires.1 in
     let l : last_of c ≡ block_at b * a.block + (a.block - 1) = omega (arith, f.whole, f.fits.low) in
     let e = w.weakest_of-symbol.ensures a.res.now in (
-      step_made (code_at b) a.block (block_at b) (stateAt b) _ (sum_is w.before.before) n a.at _ (last_of c) f.whole l e,
-      step_left (code_at b) a.block (block_at b) (stateAt b) _ (sum_is w.before.before) n a.at _ (last_of c) f.whole l e,
+      step_made (code_at b) a.block (block_at b) (state_at b) _ (sum_is w.before.before) n a.at _ (last_of c) f.whole l e,
+      step_left (code_at b) a.block (block_at b) (state_at b) _ (sum_is w.before.before) n a.at _ (last_of c) f.whole l e,
     )
 
 returns-2 : tie.Need-returns-then-least-other

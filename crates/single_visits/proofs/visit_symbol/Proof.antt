@@ -33,8 +33,8 @@ start c = begin (each c)
 abbrev code_at : tie.Start → Code
 code_at b = code_by b.args.code b.args.positions.now
 
-abbrev stateAt : tie.Start → State
-stateAt b = state_by b.args.res.now b.args.syndrome.now b.args.difference.now
+abbrev state_at : tie.Start → State
+state_at b = state_by b.args.res.now b.args.syndrome.now b.args.difference.now
 
 abbrev told : tie.Start → List ℕ
 told b = estimates_at (code_at b) b.args.symbol (get_or b.args.difference.now b.args.symbol 0) b.args.syndrome.now
@@ -144,7 +144,7 @@ returns-2 c =
     let b = start (gathering d) in
     both
     (k.change_at.ensures
-    ∙ ap (λ (x : Place). change b.args.code.q (checks_of (code_at b) x.symbol) x.symbol d.decided-h.result (stateAt b)) p.place_of-place.ensures)
+    ∙ ap (λ (x : Place). change b.args.code.q (checks_of (code_at b) x.symbol) x.symbol d.decided-h.result (state_at b)) p.place_of-place.ensures)
     c.changed.ensures
     ∙ visit_made _ _ _ _ _ _ d.decided-h.result (subtracted d) p.before.if-h-eq0.false
 
