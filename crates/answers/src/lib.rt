@@ -27,6 +27,7 @@ pub fn page_answer(code: Params, positions: &[u16], fits: bool, input: &[u8]) ->
 }
 
 // Whether every threshold is at most 32. The list is short, so each is tested by itself.
+#[tactic(auto, using(crate::proofs::Small::not_small, crate::proofs::Small::next_small), unfolding(model::specs::Calls::all_below))]
 fn all_small(thresholds: &[u8]) -> bool
     ensures { result ≡ all_below 33 thresholds.now }
 {

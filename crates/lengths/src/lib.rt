@@ -22,6 +22,7 @@ pub fn also(others: bool, fit: bool) -> bool
 }
 
 // The counters of decode with counters are 256 and all zero.
+#[tactic(auto, unfolding(model::specs::Calls::counters_fit))]
 pub fn counters_fit(counters: &[u8]) -> bool
     ensures { result ≡ counters_fit counters.now }
 {

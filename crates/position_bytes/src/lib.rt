@@ -26,6 +26,7 @@ pub fn is_small(bytes: usize, symbols: usize) -> bool
 // The buffer must have room for the positions of the table, or for 256: a table of more is not read.
 // Each byte stores a number made with the byte before it, and the second byte of a position stores the one that stays:
 // a loop over pairs of bytes would be compiled into a call of memcpy, which the archive is not to need.
+#[tactic(auto, using(crate::specs::Positions::kept_odd, crate::specs::Positions::kept_long, crate::specs::Positions::kept_all))]
 pub fn read_positions(table: &[u8], positions: &mut [u16]) -> usize
     requires { length table.now ≤ 512 → length table.now ≤ length positions.old + length positions.old }
     ensures few { result ≤ length positions.old }

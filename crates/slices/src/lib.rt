@@ -27,6 +27,7 @@ fn highest_of(s: &[u8]) -> u8
 }
 
 // Whether every symbol is below q: one test at the end of the scan, and no scan from q = 256 on, where every byte is a symbol.
+#[tactic(auto, using(crate::specs::Scans::all_below_at, crate::specs::Scans::below_highest))]
 pub fn all_below(q: u32, s: &[u8]) -> bool
     requires { 1 ≤ q }
     ensures { result ≡ all_below q s.now }

@@ -1,0 +1,2 @@
+-- Lemmas for the tests.
+pub mod Small
