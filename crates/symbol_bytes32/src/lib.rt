@@ -8,6 +8,7 @@ ghost use Rattle.model.specs.Code.{wide32};
 const SIZE: usize = 4;
 
 // How many symbols the bytes stand for: none where a byte is too many.
+#[tactic(auto, using(crate::specs::Turns::odd_none))]
 pub fn count(bytes: &[u8]) -> usize
     ensures { result ≡ length (symbols_of (symbol_size wide32) bytes.now) }
 {
