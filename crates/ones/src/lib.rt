@@ -30,6 +30,7 @@ fn gather(code: Params, positions: &[u16], j: usize, own: u8, s: &[u8]) -> u64
 }
 
 // 1 where the ones of a word of n bits, less its zeros, are above the threshold, else 0.
+#[tactic(auto, using(crate::specs::Words::decide_no, crate::specs::Words::decide_yes))]
 fn decide(n: usize, word: u64, threshold: u8) -> u8
     requires { (n ≤ 33) × (ones word ≤ n) }
     ensures { result ≡ bit (ones_decide threshold n word) }

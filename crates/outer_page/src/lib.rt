@@ -57,6 +57,7 @@ fn write_outer_checks(code: Params, positions: &[u16], block: usize, data: &[u8]
 }
 
 // Writes the page of the data in blocks, each with an outer check.
+#[tactic(auto, unfolding(model::specs::Calls::encode_outer_outcome, model::specs::Calls::encode_outer_answer, model::specs::Calls::outcome))]
 pub fn encode_outer(
     q: u32,
     k: u32,

@@ -10,6 +10,7 @@ ghost use Rattle.params.specs.Codes.{profile_of};
 use params::Params;
 
 // Writes the page of the data, in the profile of bit pages or of bytes.
+#[tactic(auto, unfolding(model::specs::Calls::encode_outcome, model::specs::Calls::encode_answer, model::specs::Calls::outcome))]
 pub fn encode_in(
     bits: bool,
     q: u32,
