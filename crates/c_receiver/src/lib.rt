@@ -11,6 +11,7 @@ use params::Params;
 
 // Decodes a received page in blocks, with the positions read, a buffer for the zeros, and the counters that are lent, or none; `others`
 // says whether these fit. Blocks of 1 are those of decode; `bits`, the code's, is handed down by itself. Margins and counts are written only when the call is done.
+#[tactic(auto, unfolding(receiver::specs::Received::ran_outcome, theory::specs::InBlocks::c_decode_form, theory::specs::InBlocks::form_outcome, model::specs::Calls::outcome))]
 pub fn decode_into(
     others: bool,
     bits: bool,

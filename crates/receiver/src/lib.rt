@@ -80,6 +80,7 @@ pub fn decode_with(
 }
 
 // Decode in its Rattle form, with a buffer for the zeros; `others` and `bits` as in `decode_with`.
+#[tactic(auto, unfolding(crate::specs::Received::ran_outcome, theory::specs::InBlocks::decode_form, theory::specs::InBlocks::form_outcome, model::specs::Calls::outcome))]
 pub fn decode_into(
     others: bool,
     bits: bool,
