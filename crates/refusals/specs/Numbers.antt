@@ -1,0 +1,44 @@
+-- The number of each refusal, as documents 01 and 02 have them, and the number that a call answers.
+use Rattle.std.specs.Prelude.{◌≡◌, ℕ, Result, Ok, Err}
+use Rattle.refusals.specs.declared.Refusal.{Refusal}
+use Rattle.refusals.specs.declared.Refusal.TheVariants.{Q, K, Branches, J, Position, NotSelfOrthogonal, Length, Symbol, ThresholdCount, Threshold, SymbolNumber, Block, Contents, Entry, Body}
+
+abbrev pub number : Refusal → ℕ
+number Q = 1
+number K = 2
+number J = 3
+number Position = 4
+number NotSelfOrthogonal = 5
+number Length = 6
+number Symbol = 7
+number ThresholdCount = 8
+number Threshold = 9
+number Branches = 10
+number SymbolNumber = 11
+number Block = 12
+number Contents = 13
+number Entry = 14
+number Body = 15
+
+-- 0 where a call was done, and else the number of its refusal
+abbrev pub answer : {A : Type 0} → Result A Refusal → ℕ
+answer (Ok _) = 0
+answer (Err refusal) = number refusal
+
+-- no refusal has the number 0
+pub not_zero : (r : Refusal) → number r ≡ 0 → ⊥
+not_zero Q = λ e. cc
+not_zero K = λ e. cc
+not_zero J = λ e. cc
+not_zero Position = λ e. cc
+not_zero NotSelfOrthogonal = λ e. cc
+not_zero Length = λ e. cc
+not_zero Symbol = λ e. cc
+not_zero ThresholdCount = λ e. cc
+not_zero Threshold = λ e. cc
+not_zero Branches = λ e. cc
+not_zero SymbolNumber = λ e. cc
+not_zero Block = λ e. cc
+not_zero Contents = λ e. cc
+not_zero Entry = λ e. cc
+not_zero Body = λ e. cc
