@@ -1,5 +1,6 @@
 -- The number of each refusal, as documents 01 and 02 have them, and the number that a call answers.
-use Rattle.std.specs.Prelude.{◌≡◌, ℕ, Result, Ok, Err}
+use Rattle.std.specs.Prelude.{◌≡◌, ◌≢◌, ℕ, Result, Ok, Err}
+use Rattle.std.proofs.Common.{sym, ◌∙◌}
 use Rattle.refusals.specs.declared.Refusal.{Refusal}
 use Rattle.refusals.specs.declared.Refusal.TheVariants.{Q, K, Branches, J, Position, NotSelfOrthogonal, Length, Symbol, ThresholdCount, Threshold, SymbolNumber, Block, Contents, Entry, Body}
 
@@ -42,3 +43,7 @@ not_zero Block = λ e. cc
 not_zero Contents = λ e. cc
 not_zero Entry = λ e. cc
 not_zero Body = λ e. cc
+
+-- a refusal that is handed on: its number is m, where m is n for every n that is not 0
+pub handed_on : (r : Refusal) (n m : ℕ) → number r ≡ n → (n ≢ 0 → m ≡ n) → number r ≡ m
+handed_on r n m e same = e ∙ sym (same (λ z. not_zero r (e ∙ z)))
