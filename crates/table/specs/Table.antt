@@ -1,7 +1,7 @@
 -- Laws of the table check's tests.
 use Rattle.std.specs.Prelude.{◌≡◌, refl, ◌≢◌, Bool, true, false, not, ◌&&◌, List, [], ◌∷◌, ℕ, ◌+◌, ◌≤◌, ◌<◌, T, ltb, leb, length, get_or, drop}
 use Rattle.std.proofs.Common.{sym, ◌∙◌, subst, add-one, drop_of_length-le, drop-cons}
-use Rattle.model.specs.Calls.{Test, test, first_that_applies, within, positions_fit, branches_fit, runs_fit, size_tests, table_fits}
+use Rattle.model.specs.Calls.{test, first_that_applies, within, positions_fit, size_tests, table_fits}
 use Rattle.model.specs.Code.{Code, code_of, branch_at, every_below, self_orthogonal}
 use Rattle.model.specs.Limits.{SizeLimits, TableLimits}
 use Rattle.theory.specs.Answers.{passed_by, refused_first, passed_first, sizes_taken}

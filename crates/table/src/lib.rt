@@ -7,25 +7,23 @@ ghost use Rattle.model.specs.Calls.{first_that_applies, positions_fit, table_fit
 ghost use Rattle.model.specs.Limits.{SizeLimits};
 ghost use Rattle.params.specs.Codes.{code_by};
 ghost use Rattle.theory.specs.Profiles.{later_tests};
+ghost use Rattle.refusals.specs.Numbers.{answer};
 
 use params::Params;
+use refusals::Refusal;
 
 // Each position is below k and above the one before it.
+#[tactic(auto, using(crate::specs::Table::fit_turn, crate::specs::Table::fit_end))]
 fn positions_fit(k: usize, positions: &[u16]) -> bool
     ensures { result ≡ positions_fit k 0 positions.now }
 {
     let mut least: usize = 0;
-    let mut i = 0;
-    while i < positions.len() {
-        let p = positions[i] as usize;
-        if k <= p {
-            return false;
-        }
-        if p < least {
+    for p in positions {
+        let p = usize::from(*p);
+        if k <= p || p < least {
             return false;
         }
         least = p + 1;
-        i += 1;
     }
     true
 }
@@ -37,48 +35,43 @@ fn table_fits(code: Params, positions: &[u16]) -> bool
 {
     let each = params::checks_each(code, positions.len());
     let mut at = 0;
-    let mut tested = 0;
-    while tested < code.b {
+    for _ in 0..code.b {
         let end = at + each;
         if !positions_fit(code.k, &positions[at..end]) {
             return false;
         }
         at = end;
-        tested += 1;
     }
     true
 }
 
-// Tests 2, 10, 3, 4 and 5, which all calls have whatever their q: the number of the first that applies, or 0.
-pub fn shape_answer(code: Params, positions: &[u16]) -> u32
-    ensures { result ≡ first_that_applies (later_tests (code_by code positions.now)) }
+// Tests 2, 10, 3, 4 and 5, which all calls have whatever their q: the first that applies refuses.
+pub fn shape_answer(code: Params, positions: &[u16]) -> Result<(), Refusal>
+    ensures { answer result ≡ first_that_applies (later_tests (code_by code positions.now)) }
 {
-    let number = limits::sizes_answer(code, positions);
-    if number != 0 {
-        return number;
-    }
+    limits::sizes_answer(code, positions)?;
     if !table_fits(code, positions) {
-        return 4;
+        return Err(Refusal::Position);
     }
     if !differences::self_orthogonal(code, positions) {
-        return 5;
+        return Err(Refusal::NotSelfOrthogonal);
     }
-    0
+    Ok(())
 }
 
-// Tests 1 to 5 and 10, which all calls that take a q have: the number of the first that applies, or 0.
-pub fn table_answer(code: Params, positions: &[u16]) -> u32
-    ensures { result ≡ table_answer (code_by code positions.now) }
+// Tests 1 to 5 and 10, which all calls that take a q have: the first that applies refuses.
+pub fn table_answer(code: Params, positions: &[u16]) -> Result<(), Refusal>
+    ensures { answer result ≡ table_answer (code_by code positions.now) }
 {
     if !limits::q_fits(code) {
-        return 1;
+        return Err(Refusal::Q);
     }
     shape_answer(code, positions)
 }
 
 // Checks a code table.
-pub fn check_table(q: u32, k: u32, b: u32, positions: &[u16]) -> u32
-    ensures { result ≡ table_answer (code_of q k b positions.now) }
+pub fn check_table(q: u32, k: u32, b: u32, positions: &[u16]) -> Result<(), Refusal>
+    ensures { answer result ≡ table_answer (code_of q k b positions.now) }
 {
     let code = Params {
         q,
