@@ -6,24 +6,23 @@ ghost use Rattle.model.specs.Decoder.{state_by};
 ghost use Rattle.model.specs.Calls.{all_below, first_that_applies, page_tests, threshold_tests, block_test, decode_answer, pass_answer, explain_answer};
 ghost use Rattle.params.specs.Codes.{code_by};
 ghost use Rattle.theory.specs.InBlocks.{blocks_answer};
+ghost use Rattle.refusals.specs.Numbers.{answer};
 
 use params::Params;
+use refusals::Refusal;
 
-// Tests 1 to 7 and 10, of a call whose lent buffers fit or not and whose input is read: the number of the first that applies, or 0.
-pub fn page_answer(code: Params, positions: &[u16], fits: bool, input: &[u8]) -> u32
-    ensures { result ≡ first_that_applies (page_tests (code_by code positions.now) fits input.now) }
+// Tests 1 to 7 and 10, of a call whose lent buffers fit or not and whose input is read: the first that applies refuses.
+pub fn page_answer(code: Params, positions: &[u16], fits: bool, input: &[u8]) -> Result<(), Refusal>
+    ensures { answer result ≡ first_that_applies (page_tests (code_by code positions.now) fits input.now) }
 {
-    let number = table::table_answer(code, positions);
-    if number != 0 {
-        return number;
-    }
+    table::table_answer(code, positions)?;
     if !fits {
-        return 6;
+        return Err(Refusal::Length);
     }
     if !slices::all_below(code.q, input) {
-        return 7;
+        return Err(Refusal::Symbol);
     }
-    0
+    Ok(())
 }
 
 // Whether every threshold is at most 32. The list is short, so each is tested by itself.
@@ -31,37 +30,38 @@ pub fn page_answer(code: Params, positions: &[u16], fits: bool, input: &[u8]) ->
 fn all_small(thresholds: &[u8]) -> bool
     ensures { result ≡ all_below 33 thresholds.now }
 {
-    let mut i = 0;
-    while i < thresholds.len() {
-        if 32 < thresholds[i] {
+    for t in thresholds {
+        if 32 < *t {
             return false;
         }
-        i += 1;
     }
     true
 }
 
 // Tests 8 and 9.
-pub fn threshold_answer(thresholds: &[u8]) -> u32
-    ensures { result ≡ first_that_applies (threshold_tests thresholds.now) }
+pub fn threshold_answer(thresholds: &[u8]) -> Result<(), Refusal>
+    ensures { answer result ≡ first_that_applies (threshold_tests thresholds.now) }
 {
     if !limits::within(1, 64, thresholds.len()) {
-        return 8;
+        return Err(Refusal::ThresholdCount);
     }
     if !all_small(thresholds) {
-        return 9;
+        return Err(Refusal::Threshold);
     }
-    0
+    Ok(())
 }
 
 // Tests 1 to 10.
-fn decode_answer(code: Params, positions: &[u16], fits: bool, page: &[u8], thresholds: &[u8]) -> u32
-    ensures { result ≡ decode_answer (code_by code positions.now) fits page.now thresholds.now }
+fn decode_answer(
+    code: Params,
+    positions: &[u16],
+    fits: bool,
+    page: &[u8],
+    thresholds: &[u8],
+) -> Result<(), Refusal>
+    ensures { answer result ≡ decode_answer (code_by code positions.now) fits page.now thresholds.now }
 {
-    let number = page_answer(code, positions, fits, page);
-    if number != 0 {
-        return number;
-    }
+    page_answer(code, positions, fits, page)?;
     threshold_answer(thresholds)
 }
 
@@ -74,21 +74,21 @@ pub fn pass_answer(
     res: &[u8],
     syndrome: &[u8],
     difference: &[u8],
-) -> u32
-    ensures { result ≡ pass_answer (code_by code positions.now) fits threshold
+) -> Result<(), Refusal>
+    ensures { answer result ≡ pass_answer (code_by code positions.now) fits threshold
         (state_by res.now syndrome.now difference.now) }
 {
-    let number = page_answer(code, positions, fits, res);
-    if number != 0 {
-        return number;
-    }
+    page_answer(code, positions, fits, res)?;
     if !slices::all_below(code.q, syndrome) {
-        return 7;
+        return Err(Refusal::Symbol);
     }
     if !slices::all_below(code.q, difference) {
-        return 7;
+        return Err(Refusal::Symbol);
     }
-    if 32 < threshold { 9 } else { 0 }
+    if 32 < threshold {
+        return Err(Refusal::Threshold);
+    }
+    Ok(())
 }
 
 // The tests of explain: those of a pass, and 11 of the symbol's number.
@@ -101,34 +101,30 @@ pub fn explain_answer(
     res: &[u8],
     syndrome: &[u8],
     difference: &[u8],
-) -> u32
+) -> Result<(), Refusal>
     requires { code.b * code.k ≤ 18446744073709551615 }
-    ensures { result ≡ explain_answer (code_by code positions.now) fits threshold symbol
+    ensures { answer result ≡ explain_answer (code_by code positions.now) fits threshold symbol
         (state_by res.now syndrome.now difference.now) }
 {
-    let number = pass_answer(code, positions, fits, threshold, res, syndrome, difference);
-    if number != 0 {
-        return number;
+    pass_answer(code, positions, fits, threshold, res, syndrome, difference)?;
+    if params::data_count(code) <= symbol as usize {
+        return Err(Refusal::SymbolNumber);
     }
-    let n = params::data_count(code);
-    if n <= symbol as usize {
-        return 11;
-    }
-    0
+    Ok(())
 }
 
 // Test 12, of blocks of so many symbols; it looks at no position.
-pub fn block_answer(code: Params, block: usize) -> u32
+pub fn block_answer(code: Params, block: usize) -> Result<(), Refusal>
     requires { code.b * code.k ≤ 4096 }
-    ensures { (ps : List ℕ) → result ≡ first_that_applies (block_test (code_by code ps) block) }
+    ensures { (ps : List ℕ) → answer result ≡ first_that_applies (block_test (code_by code ps) block) }
 {
     if block < 2 {
-        return 12;
+        return Err(Refusal::Block);
     }
     if !blocks::divides(block, params::data_count(code)) {
-        return 12;
+        return Err(Refusal::Block);
     }
-    0
+    Ok(())
 }
 
 // The tests of encode in blocks: 1 to 7 and 10, and 12.
@@ -138,14 +134,11 @@ pub fn encode_outer_answer(
     block: usize,
     fits: bool,
     data: &[u8],
-) -> u32
-    ensures { result ≡ first_that_applies (page_tests (code_by code positions.now) fits «data».now
+) -> Result<(), Refusal>
+    ensures { answer result ≡ first_that_applies (page_tests (code_by code positions.now) fits «data».now
         ++ block_test (code_by code positions.now) block) }
 {
-    let number = page_answer(code, positions, fits, data);
-    if number != 0 {
-        return number;
-    }
+    page_answer(code, positions, fits, data)?;
     block_answer(code, block)
 }
 
@@ -157,15 +150,12 @@ pub fn blocks_answer(
     fits: bool,
     page: &[u8],
     thresholds: &[u8],
-) -> u32
-    ensures { result ≡ blocks_answer (code_by code positions.now) block fits page.now thresholds.now }
+) -> Result<(), Refusal>
+    ensures { answer result ≡ blocks_answer (code_by code positions.now) block fits page.now thresholds.now }
 {
-    let number = decode_answer(code, positions, fits, page, thresholds);
-    if number != 0 {
-        return number;
-    }
+    decode_answer(code, positions, fits, page, thresholds)?;
     if block == 1 {
-        return 0;
+        return Ok(());
     }
     block_answer(code, block)
 }
