@@ -14,11 +14,6 @@ use Rattle.ones.specs.Pages.{AllBits}
 use Rattle.outer_correction.specs.Corrected.{corrected, corrected_on}
 use Rattle.visits.specs.Progress.{Progress}
 use Rattle.zeros.specs.Counts.{zero_counts}
-use Rattle.tally.specs.declared.Tally.{Tally}
-
--- the counts of a tally
-abbrev pub counts_of : Tally → Counts
-counts_of t = record { passes = t.passes; changes = t.changes; start = t.start; end = t.end }
 
 -- what decoding leaves and counts, its margins apart
 pub record Ran : Type 0 where

@@ -2,7 +2,7 @@
 // blocks: decode in blocks of 1.
 #![tactic(auto)]
 
-ghost use Rattle.std.specs.Prelude.{◌≡◌, true, ◌&&◌, ◌*◌, ◌≤◌, length};
+ghost use Rattle.std.specs.Prelude.{◌≡◌, true, ◌&&◌, ◌*◌, ◌≤◌, length, IfOk};
 ghost use Rattle.model.specs.Decoder.{state_by};
 ghost use Rattle.model.specs.Calls.{decode_fits};
 ghost use Rattle.params.specs.Codes.{code_by};
@@ -10,10 +10,13 @@ ghost use Rattle.theory.specs.Counters.{Clear};
 ghost use Rattle.theory.specs.InBlocks.{decode_form};
 ghost use Rattle.ones.specs.Pages.{AllBits};
 ghost use Rattle.margins.specs.Margins.{Left};
-ghost use Rattle.receiver.specs.Received.{counts_of, ran_outcome};
+ghost use Rattle.receiver.specs.Received.{ran_outcome};
+ghost use Rattle.refusals.specs.Numbers.{answer};
+ghost use Rattle.tally.specs.Counts.{counts_in};
 
 use params::Params;
-use tally::{Decoded, Tally};
+use refusals::Refusal;
+use tally::Tally;
 
 // Decodes a received page into the result, S and D, for every form of the call: `others` says whether the buffers that only
 // one form lends fit, n is the number of data symbols, and zeros, which the form keeps on its stack, all zero, is what the margins
@@ -32,19 +35,19 @@ pub fn decode_with(
     res: &mut [u8],
     syndrome: &mut [u8],
     difference: &mut [u8],
-) -> Decoded
+) -> Result<Tally, Refusal>
     requires { (n ≡ code.b * code.k) × (n ≤ 4096 → n ≤ length zeros.old) × Clear zeros.old × (others ≡ true → Clear counters.old)
         × (bits ≡ code.bits) }
     ensures outcome { record {
-      number = result.number;
-      left = record { state = state_by res.new syndrome.new difference.new; counts = counts_of result.tally };
+      number = answer result;
+      left = record { state = state_by res.new syndrome.new difference.new; counts = counts_in result };
     } ≡ ran_outcome (code_by code positions.now) block
         (others && decode_fits (code_by code positions.now) page.now
         (state_by res.old syndrome.old difference.old))
         page.now thresholds.now
         (state_by res.old syndrome.old difference.old) }
-    ensures left { result.number ≡ 0 → Left (code_by code positions.now) syndrome.new difference.new zeros.new result.tally.end
-        × AllBits bits syndrome.new difference.new }
+    ensures left { IfOk result (λ tally. Left (code_by code positions.now) syndrome.new difference.new zeros.new tally.end
+        × AllBits bits syndrome.new difference.new) }
     ensures kept { counters.new ≡ counters.old }
 {
     let fits = lengths::decode_fits(
@@ -56,14 +59,8 @@ pub fn decode_with(
         syndrome.len(),
         difference.len(),
     );
-    let number = answers::blocks_answer(code, positions, block, fits, page, thresholds);
-    if number != 0 {
-        return Decoded {
-            number,
-            tally: Tally::opened(0),
-        };
-    }
-    let tally = outer_correction::correct_page(
+    answers::blocks_answer(code, positions, block, fits, page, thresholds)?;
+    Ok(outer_correction::correct_page(
         bits,
         code,
         positions,
@@ -75,8 +72,7 @@ pub fn decode_with(
         res,
         syndrome,
         difference,
-    );
-    Decoded { number: 0, tally }
+    ))
 }
 
 // Decode in its Rattle form, with a buffer for the zeros; `others` and `bits` as in `decode_with`.
@@ -95,24 +91,24 @@ pub fn decode_into(
     syndrome: &mut [u8],
     difference: &mut [u8],
     margins: &mut [i32],
-) -> Decoded
+) -> Result<Tally, Refusal>
     requires { (code.k ≤ 4294967295) × (code.b ≤ 4294967295) × (code.b * code.k ≤ 4096 → code.b * code.k ≤ length zeros.old)
         × Clear zeros.old
         × (others ≡ true → Clear counters.old)
         × (bits ≡ code.bits) }
     ensures outcome { record {
-      number = result.number;
+      number = answer result;
       left = record {
         state = state_by res.new syndrome.new difference.new;
         margins = margins.new;
-        counts = counts_of result.tally;
+        counts = counts_in result;
       };
     } ≡ decode_form (code_by code positions.now) block others page.now thresholds.now
         (state_by res.old syndrome.old difference.old) margins.old }
     ensures kept { counters.new ≡ counters.old }
 {
     let n = params::data_count(code);
-    let got = decode_with(
+    let tally = decode_with(
         lengths::also(others, margins.len() == n),
         bits,
         n,
@@ -126,16 +122,9 @@ pub fn decode_into(
         res,
         syndrome,
         difference,
-    );
-    if got.number != 0 {
-        return got;
-    }
-    let counts = got.tally;
+    )?;
     page_margins::fill(
-        bits, code, positions, counts.end, zeros, syndrome, difference, margins,
+        bits, code, positions, tally.end, zeros, syndrome, difference, margins,
     );
-    Decoded {
-        number: 0,
-        tally: counts,
-    }
+    Ok(tally)
 }

@@ -1,5 +1,5 @@
 -- `decode_into`: where `decode_with` is done, the lent margins have their length.
-use Rattle.std.proofs.Common.{◌≡◌, ◌&&◌, ℕ, eqb, length, sym, ◌∙◌, ap, arith}
+use Rattle.std.proofs.Common.{◌≡◌, ◌&&◌, ℕ, eqb, length, sym, ◌∙◌, ap}
 use Rattle.model.specs.Calls.{decode_fits}
 use Rattle.model.specs.Code.{Code, data_count}
 use Rattle.model.specs.Decoder.{State, state_by}
@@ -14,14 +14,12 @@ pub fill-requires : goal.fill-requires
 unfolding ran_outcome
 fill-requires c =
     let a = c.args in
-    let p = c.decode_with-got in
     let code : Code = code_by a.code a.positions.now in
     let lent : State = state_by a.res.now a.syndrome.now a.difference.now in
-    let z : p.result.number ≡ 0 = omega arith in
     let fits : c.also.result ≡ (a.others && eqb (length a.margins.now) (data_count code)) =
     c.also.ensures ∙ ap (λ (n : ℕ). a.others && eqb (length a.margins.now) n) c.data_count-n.ensures in
-    let number : p.result.number ≡ blocks_answer code a.block (c.also.result && decode_fits code a.page.now lent) a.page.now a.thresholds.now =
-    outcome_number _ _ _ _ _ p.ensures.outcome in
-    let o = decode_opens code c.also.result a.page.now a.thresholds.now lent (blocks_taken code _ a.page.now a.thresholds.now a.block (sym number ∙ z)).0 in
-    let left = p.ensures.left z in
+    let number : 0 ≡ blocks_answer code a.block (c.also.result && decode_fits code a.page.now lent) a.page.now a.thresholds.now =
+    outcome_number _ _ _ _ _ c.in_ok-tally.ensures.outcome in
+    let o = decode_opens code c.also.result a.page.now a.thresholds.now lent (blocks_taken code _ a.page.now a.thresholds.now a.block (sym number)).0 in
+    let left = c.in_ok-tally.ensures.left in
     (left.0, eqb-true (length a.margins.now) (data_count code) (and_true a.others _ (sym fits ∙ o.0)).1, left.1)

@@ -1,0 +1,2 @@
+-- The counts of a tally, and of what decode hands back.
+pub mod Counts
