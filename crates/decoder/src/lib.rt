@@ -7,11 +7,14 @@ ghost use Rattle.model.specs.Decoder.{state_by};
 ghost use Rattle.model.specs.Calls.{decode_outcome, decode_counters_outcome};
 ghost use Rattle.model.specs.Demand.{DecodeFalls, DecodeRecovers};
 ghost use Rattle.params.specs.Codes.{profile_of};
+ghost use Rattle.refusals.specs.Numbers.{answer};
+ghost use Rattle.tally.specs.Counts.{counts_in};
 ghost use Rattle.theory.specs.Counters.{Clear};
 ghost use Rattle.theory.specs.InBlocks.{decode_form};
 
 use params::Params;
-pub use tally::Decoded;
+pub use refusals::Refusal;
+pub use tally::Tally;
 
 // Decodes a received page in blocks, for every call, with the counters that are lent, or none; `others` says whether these fit. Blocks of 1
 // are those of decode; `bits` says whether the profile is that of bit pages. A small code clears a small buffer for the zeros.
@@ -30,14 +33,14 @@ pub fn decode_blocks(
     syndrome: &mut [u8],
     difference: &mut [u8],
     margins: &mut [i32],
-) -> Decoded
+) -> Result<Tally, Refusal>
     requires { others ≡ true → Clear counters.old }
     ensures outcome { record {
-      number = result.number;
+      number = answer result;
       left = record {
         state = state_by res.new syndrome.new difference.new;
         margins = margins.new;
-        counts = record { passes = result.tally.passes; changes = result.tally.changes; start = result.tally.start; end = result.tally.end };
+        counts = counts_in result;
       };
     } ≡ decode_form (code_in (profile_of bits) q k b positions.now) block others page.now thresholds.now
         (state_by res.old syndrome.old difference.old) margins.old }
@@ -77,22 +80,22 @@ pub fn decode_counters(
     difference: &mut [u8],
     margins: &mut [i32],
     counters: &mut [u8],
-) -> Decoded
+) -> Result<Tally, Refusal>
     ensures outcome { record {
       given = record {
-        number = result.number;
+        number = answer result;
         left = record {
           state = state_by res.new syndrome.new difference.new;
           margins = margins.new;
-          counts = record { passes = result.tally.passes; changes = result.tally.changes; start = result.tally.start; end = result.tally.end };
+          counts = counts_in result;
         };
       };
       counters = counters.new;
     } ≡ decode_counters_outcome (code_of q k b positions.now) page.now thresholds.now
         (state_by res.old syndrome.old difference.old) margins.old counters.old }
-    ensures falling { result.number ≡ 0 → DecodeFalls (code_of q k b positions.now) thresholds.now page.now
-        (record { passes = result.tally.passes; changes = result.tally.changes; start = result.tally.start; end = result.tally.end }) }
-    ensures recovery { result.number ≡ 0 → DecodeRecovers (code_of q k b positions.now) thresholds.now page.now res.new }
+    ensures falling { answer result ≡ 0 → DecodeFalls (code_of q k b positions.now) thresholds.now page.now
+        (counts_in result) }
+    ensures recovery { answer result ≡ 0 → DecodeRecovers (code_of q k b positions.now) thresholds.now page.now res.new }
 {
     let fit = lengths::counters_fit(counters);
     decode_blocks(
@@ -114,19 +117,19 @@ pub fn decode(
     syndrome: &mut [u8],
     difference: &mut [u8],
     margins: &mut [i32],
-) -> Decoded
+) -> Result<Tally, Refusal>
     ensures outcome { record {
-      number = result.number;
+      number = answer result;
       left = record {
         state = state_by res.new syndrome.new difference.new;
         margins = margins.new;
-        counts = record { passes = result.tally.passes; changes = result.tally.changes; start = result.tally.start; end = result.tally.end };
+        counts = counts_in result;
       };
     } ≡ decode_outcome (code_of q k b positions.now) true page.now thresholds.now
         (state_by res.old syndrome.old difference.old) margins.old }
-    ensures falling { result.number ≡ 0 → DecodeFalls (code_of q k b positions.now) thresholds.now page.now
-        (record { passes = result.tally.passes; changes = result.tally.changes; start = result.tally.start; end = result.tally.end }) }
-    ensures recovery { result.number ≡ 0 → DecodeRecovers (code_of q k b positions.now) thresholds.now page.now res.new }
+    ensures falling { answer result ≡ 0 → DecodeFalls (code_of q k b positions.now) thresholds.now page.now
+        (counts_in result) }
+    ensures recovery { answer result ≡ 0 → DecodeRecovers (code_of q k b positions.now) thresholds.now page.now res.new }
 {
     let mut none = [0u8; 0];
     decode_blocks(

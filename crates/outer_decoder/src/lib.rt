@@ -6,8 +6,11 @@ ghost use Rattle.model.specs.Code.{code_of};
 ghost use Rattle.model.specs.Decoder.{state_by};
 ghost use Rattle.model.specs.Calls.{decode_outer_outcome};
 ghost use Rattle.model.specs.Demand.{OuterFalls, OuterRecovers};
+ghost use Rattle.refusals.specs.Numbers.{answer};
+ghost use Rattle.tally.specs.Counts.{counts_in};
 
-pub use tally::Decoded;
+pub use refusals::Refusal;
+pub use tally::Tally;
 
 // Decodes a received page whose data was sent in blocks with an outer check: the passes, then the outer steps, and the margins after
 // them.
@@ -23,20 +26,20 @@ pub fn decode_outer(
     syndrome: &mut [u8],
     difference: &mut [u8],
     margins: &mut [i32],
-) -> Decoded
+) -> Result<Tally, Refusal>
     ensures outcome { record {
-      number = result.number;
+      number = answer result;
       left = record {
         state = state_by res.new syndrome.new difference.new;
         margins = margins.new;
-        counts = record { passes = result.tally.passes; changes = result.tally.changes; start = result.tally.start; end = result.tally.end };
+        counts = counts_in result;
       };
     } ≡ decode_outer_outcome (code_of q k b positions.now) block page.now thresholds.now
         (state_by res.old syndrome.old difference.old) margins.old }
-    ensures falling { result.number ≡ 0 → OuterFalls (code_of q k b positions.now) block thresholds.now page.now
-        (record { passes = result.tally.passes; changes = result.tally.changes; start = result.tally.start; end = result.tally.end }) }
-    ensures recovery { result.number ≡ 0 → OuterRecovers (code_of q k b positions.now) block thresholds.now page.now res.new
-        (record { passes = result.tally.passes; changes = result.tally.changes; start = result.tally.start; end = result.tally.end }) }
+    ensures falling { answer result ≡ 0 → OuterFalls (code_of q k b positions.now) block thresholds.now page.now
+        (counts_in result) }
+    ensures recovery { answer result ≡ 0 → OuterRecovers (code_of q k b positions.now) block thresholds.now page.now res.new
+        (counts_in result) }
 {
     let length = blocks::length_of(block);
     let mut none = [0u8; 0];
