@@ -6,8 +6,10 @@ ghost use Rattle.model.specs.Code.{code_of};
 ghost use Rattle.model.specs.Decoder.{state_by, decoded_counts};
 ghost use Rattle.model.specs.Bytes.{positions_of, c_decode_counters_outcome};
 ghost use Rattle.model.specs.Demand.{DecodeFalls, DecodeRecovers};
+ghost use Rattle.refusals.specs.Numbers.{answer};
 
 use params::Params;
+use refusals::Refusal;
 
 // Decodes a page. The votes are taken by 256 lent counters, which are all zero before and after. The buffers have room for any code.
 pub fn decode_counters(
@@ -23,10 +25,10 @@ pub fn decode_counters(
     margins: &mut [u8],
     counters: &mut [u8],
     counts: &mut [u8],
-) -> u32
+) -> Result<(), Refusal>
     ensures outcome { record {
       given = record {
-        number = result;
+        number = answer result;
         left = record {
           state = state_by res.new syndrome.new difference.new;
           margins = margins.new;
@@ -36,9 +38,9 @@ pub fn decode_counters(
       counters = counters.new;
     } ≡ c_decode_counters_outcome (code_of q k b (positions_of table.now)) page.now thresholds.now
         (state_by res.old syndrome.old difference.old) margins.old counters.old counts.old }
-    ensures falling { result ≡ 0 → DecodeFalls (code_of q k b (positions_of table.now)) thresholds.now page.now
+    ensures falling { answer result ≡ 0 → DecodeFalls (code_of q k b (positions_of table.now)) thresholds.now page.now
         (decoded_counts (code_of q k b (positions_of table.now)) thresholds.now page.now) }
-    ensures recovery { result ≡ 0 → DecodeRecovers (code_of q k b (positions_of table.now)) thresholds.now page.now res.new }
+    ensures recovery { answer result ≡ 0 → DecodeRecovers (code_of q k b (positions_of table.now)) thresholds.now page.now res.new }
 {
     let code = Params {
         q,

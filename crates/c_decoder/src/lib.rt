@@ -7,8 +7,10 @@ ghost use Rattle.model.specs.Decoder.{state_by, decoded_counts};
 ghost use Rattle.model.specs.Bytes.{positions_of, c_decode_outcome};
 ghost use Rattle.model.specs.Demand.{DecodeFalls, DecodeRecovers};
 ghost use Rattle.params.specs.Codes.{profile_of};
+ghost use Rattle.refusals.specs.Numbers.{answer};
 
 use params::Params;
+use refusals::Refusal;
 
 // Decodes a page, in the profile of bit pages or of bytes. A small table is read into a small buffer, which costs less to clear.
 pub fn decode(
@@ -24,9 +26,9 @@ pub fn decode(
     difference: &mut [u8],
     margins: &mut [u8],
     counts: &mut [u8],
-) -> u32
+) -> Result<(), Refusal>
     ensures outcome { record {
-      number = result;
+      number = answer result;
       left = record {
         state = state_by res.new syndrome.new difference.new;
         margins = margins.new;
@@ -34,9 +36,9 @@ pub fn decode(
       };
     } ≡ c_decode_outcome (code_in (profile_of bits) q k b (positions_of table.now)) true page.now thresholds.now
         (state_by res.old syndrome.old difference.old) margins.old counts.old }
-    ensures falling { result ≡ 0 → DecodeFalls (code_in (profile_of bits) q k b (positions_of table.now)) thresholds.now page.now
+    ensures falling { answer result ≡ 0 → DecodeFalls (code_in (profile_of bits) q k b (positions_of table.now)) thresholds.now page.now
         (decoded_counts (code_in (profile_of bits) q k b (positions_of table.now)) thresholds.now page.now) }
-    ensures recovery { result ≡ 0 → DecodeRecovers (code_in (profile_of bits) q k b (positions_of table.now)) thresholds.now page.now
+    ensures recovery { answer result ≡ 0 → DecodeRecovers (code_in (profile_of bits) q k b (positions_of table.now)) thresholds.now page.now
         res.new }
 {
     let code = Params {

@@ -7,8 +7,10 @@ ghost use Rattle.model.specs.Decoder.{state_by};
 ghost use Rattle.model.specs.Outer.{outer_counts};
 ghost use Rattle.model.specs.Bytes.{positions_of, c_decode_outer_outcome};
 ghost use Rattle.model.specs.Demand.{OuterFalls, OuterRecovers};
+ghost use Rattle.refusals.specs.Numbers.{answer};
 
 use params::Params;
+use refusals::Refusal;
 
 // Decodes a page whose data was sent in blocks with an outer check. A small code has small buffers for its positions and its zeros, which
 // cost less to clear.
@@ -25,9 +27,9 @@ pub fn decode_outer(
     difference: &mut [u8],
     margins: &mut [u8],
     counts: &mut [u8],
-) -> u32
+) -> Result<(), Refusal>
     ensures outcome { record {
-      number = result;
+      number = answer result;
       left = record {
         state = state_by res.new syndrome.new difference.new;
         margins = margins.new;
@@ -35,9 +37,9 @@ pub fn decode_outer(
       };
     } ≡ c_decode_outer_outcome (code_of q k b (positions_of table.now)) block page.now thresholds.now
         (state_by res.old syndrome.old difference.old) margins.old counts.old }
-    ensures falling { result ≡ 0 → OuterFalls (code_of q k b (positions_of table.now)) block thresholds.now page.now
+    ensures falling { answer result ≡ 0 → OuterFalls (code_of q k b (positions_of table.now)) block thresholds.now page.now
         (outer_counts (code_of q k b (positions_of table.now)) block thresholds.now page.now) }
-    ensures recovery { result ≡ 0 → OuterRecovers (code_of q k b (positions_of table.now)) block thresholds.now page.now res.new
+    ensures recovery { answer result ≡ 0 → OuterRecovers (code_of q k b (positions_of table.now)) block thresholds.now page.now res.new
         (outer_counts (code_of q k b (positions_of table.now)) block thresholds.now page.now) }
 {
     let code = Params {

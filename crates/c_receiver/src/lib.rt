@@ -6,8 +6,10 @@ ghost use Rattle.model.specs.Decoder.{state_by};
 ghost use Rattle.params.specs.Codes.{code_by};
 ghost use Rattle.theory.specs.Counters.{Clear};
 ghost use Rattle.theory.specs.InBlocks.{c_decode_form};
+ghost use Rattle.refusals.specs.Numbers.{answer};
 
 use params::Params;
+use refusals::Refusal;
 
 // Decodes a received page in blocks, with the positions read, a buffer for the zeros, and the counters that are lent, or none; `others`
 // says whether these fit. Blocks of 1 are those of decode; `bits`, the code's, is handed down by itself. Margins and counts are written only when the call is done.
@@ -27,13 +29,13 @@ pub fn decode_into(
     difference: &mut [u8],
     margins: &mut [u8],
     counts: &mut [u8],
-) -> u32
+) -> Result<(), Refusal>
     requires { (code.k ≤ 4294967295) × (code.b ≤ 4294967295) × (code.b * code.k ≤ 4096 → code.b * code.k ≤ length zeros.old)
         × Clear zeros.old
         × (others ≡ true → Clear counters.old)
         × (bits ≡ code.bits) }
     ensures outcome { record {
-      number = result;
+      number = answer result;
       left = record {
         state = state_by res.new syndrome.new difference.new;
         margins = margins.new;
@@ -45,7 +47,7 @@ pub fn decode_into(
 {
     let n = params::data_count(code);
     let bytes = lengths::bytes_fit(margins.len(), n, counts.len());
-    let decoded = receiver::decode_with(
+    match receiver::decode_with(
         lengths::also(others, bytes),
         bits,
         n,
@@ -59,14 +61,14 @@ pub fn decode_into(
         res,
         syndrome,
         difference,
-    );
-    if decoded.number != 0 {
-        return decoded.number;
+    ) {
+        Ok(tally) => {
+            margin_bytes::put_margins(
+                bits, code, positions, tally.end, zeros, syndrome, difference, margins,
+            );
+            number_bytes::put_counts(counts, tally.passes, tally.changes, tally.start, tally.end);
+            Ok(())
+        }
+        Err(refusal) => Err(refusal),
     }
-    let tally = decoded.tally;
-    margin_bytes::put_margins(
-        bits, code, positions, tally.end, zeros, syndrome, difference, margins,
-    );
-    number_bytes::put_counts(counts, tally.passes, tally.changes, tally.start, tally.end);
-    0
 }

@@ -5,8 +5,10 @@ ghost use Rattle.std.specs.Prelude.{◌≡◌, true, ◌≤◌};
 ghost use Rattle.model.specs.Decoder.{state_by};
 ghost use Rattle.params.specs.Codes.{code_by};
 ghost use Rattle.theory.specs.InBlocks.{c_decode_form};
+ghost use Rattle.refusals.specs.Numbers.{answer};
 
 use params::Params;
+use refusals::Refusal;
 
 // Decodes a page, in blocks of 1, with the positions read. A small code has a small buffer for the zeros, which costs less to clear;
 // `bits`, the code's, is handed down by itself.
@@ -21,10 +23,10 @@ pub fn decode_sized(
     difference: &mut [u8],
     margins: &mut [u8],
     counts: &mut [u8],
-) -> u32
+) -> Result<(), Refusal>
     requires { (code.k ≤ 4294967295) × (code.b ≤ 4294967295) × (bits ≡ code.bits) }
     ensures outcome { record {
-      number = result;
+      number = answer result;
       left = record {
         state = state_by res.new syndrome.new difference.new;
         margins = margins.new;

@@ -1,5 +1,5 @@
 -- `decode_into`: where `decode_with` is done, the lent margins and counts have their lengths.
-use Rattle.std.proofs.Common.{◌≡◌, Bool, ◌&&◌, ℕ, ◌*◌, eqb, length, sym, ◌∙◌, ap, arith}
+use Rattle.std.proofs.Common.{◌≡◌, Bool, ◌&&◌, ℕ, ◌*◌, eqb, length, refl, sym, ◌∙◌, ap}
 use Rattle.model.specs.Calls.{decode_fits}
 use Rattle.model.specs.Code.{Code, data_count}
 use Rattle.model.specs.Decoder.{State, state_by}
@@ -22,21 +22,18 @@ pub put_margins-requires : goal.put_margins-requires
 unfolding ran_outcome
 put_margins-requires c =
     let a = c.args in
-    let p = c.decode_with-decoded in
-    let z : p.result.number ≡ 0 = omega arith in
-    let left = p.ensures.left z in (
-      left.0,
+    let e = c.in-Ok.ensures in (
+      e.left.0,
       (lengths (code_by a.code a.positions.now) a.block (length a.margins.now) _ (length a.counts.now) a.others _ c.also.result a.page.now a.thresholds.now
-          (state_by a.res.now a.syndrome.now a.difference.now) p.result.number (outcome_number _ _ _ _ _ p.ensures.outcome) c.also.ensures c.bytes_fit-bytes.ensures
-          c.data_count-n.ensures z).0,
-      left.1,
+          (state_by a.res.now a.syndrome.now a.difference.now) 0 (outcome_number _ _ _ _ _ e.outcome) c.also.ensures c.bytes_fit-bytes.ensures
+          c.data_count-n.ensures refl).0,
+      e.left.1,
     )
 
 pub put_counts-requires : goal.put_counts-requires
 unfolding ran_outcome
 put_counts-requires c =
     let a = c.args in
-    let p = c.decode_with-decoded in
     (lengths (code_by a.code a.positions.now) a.block (length a.margins.now) _ (length a.counts.now) a.others _ c.also.result a.page.now a.thresholds.now
-    (state_by a.res.now a.syndrome.now a.difference.now) p.result.number (outcome_number _ _ _ _ _ p.ensures.outcome) c.also.ensures c.bytes_fit-bytes.ensures
-    c.data_count-n.ensures (omega arith)).1
+    (state_by a.res.now a.syndrome.now a.difference.now) 0 (outcome_number _ _ _ _ _ c.in-Ok.ensures.outcome) c.also.ensures c.bytes_fit-bytes.ensures
+    c.data_count-n.ensures refl).1
