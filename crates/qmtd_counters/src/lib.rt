@@ -39,7 +39,7 @@ pub extern "C" fn qmtd_decode_counters(
         (decoded_counts (code_of q k b (positions_of table.now)) thresholds.now page.now) }
     ensures recovery { result ≡ 0 → DecodeRecovers (code_of q k b (positions_of table.now)) thresholds.now page.now res.new }
 {
-    c_counters::decode_counters(
+    refusals::answer(c_counters::decode_counters(
         q, k, b, table, page, thresholds, res, syndrome, difference, margins, counters, counts,
-    )
+    ))
 }
