@@ -13,6 +13,7 @@ fn highest(q: u32) -> u8
 }
 
 // At q = 256 a byte's own wrapping sum is that of symbols.
+#[tactic(auto, unfolding(model::specs::Symbols::add))]
 fn add_byte(a: u8, b: u8) -> u8
     ensures { result ≡ add 256 a b }
 {
@@ -24,10 +25,8 @@ fn add_bytes(acc: &mut [u8], src: &[u8])
     requires { length acc.old ≡ length src.now }
     ensures { acc.new ≡ add_each 256 acc.old src.now }
 {
-    let mut i = 0;
-    while i < acc.len() {
-        acc[i] = add_byte(acc[i], src[i]);
-        i += 1;
+    for (i, a) in acc.iter_mut().enumerate() {
+        *a = add_byte(*a, src[i]);
     }
 }
 
@@ -35,10 +34,8 @@ fn add_two_bytes(acc: &mut [u8], xs: &[u8], ys: &[u8])
     requires { (length acc.old ≡ length xs.now) × (length acc.old ≡ length ys.now) }
     ensures { acc.new ≡ add_each 256 (add_each 256 acc.old xs.now) ys.now }
 {
-    let mut i = 0;
-    while i < acc.len() {
-        acc[i] = add_byte(add_byte(acc[i], xs[i]), ys[i]);
-        i += 1;
+    for (i, a) in acc.iter_mut().enumerate() {
+        *a = add_byte(add_byte(*a, xs[i]), ys[i]);
     }
 }
 
@@ -47,10 +44,8 @@ fn add_symbols(top: u8, acc: &mut [u8], src: &[u8])
     requires { (length acc.old ≡ length src.now) × Below (top + 1) acc.old × Below (top + 1) src.now }
     ensures { acc.new ≡ add_each (top + 1) acc.old src.now }
 {
-    let mut i = 0;
-    while i < acc.len() {
-        acc[i] = symbols::add_mod(top, acc[i], src[i]);
-        i += 1;
+    for (i, a) in acc.iter_mut().enumerate() {
+        *a = symbols::add_mod(top, *a, src[i]);
     }
 }
 
@@ -62,10 +57,8 @@ fn add_two_symbols(top: u8, acc: &mut [u8], xs: &[u8], ys: &[u8])
         × Below (top + 1) ys.now }
     ensures { acc.new ≡ add_each (top + 1) (add_each (top + 1) acc.old xs.now) ys.now }
 {
-    let mut i = 0;
-    while i < acc.len() {
-        acc[i] = symbols::add_mod(top, symbols::add_mod(top, acc[i], xs[i]), ys[i]);
-        i += 1;
+    for (i, a) in acc.iter_mut().enumerate() {
+        *a = symbols::add_mod(top, symbols::add_mod(top, *a, xs[i]), ys[i]);
     }
 }
 
@@ -104,10 +97,8 @@ fn sub_symbols(q: u32, dst: &mut [u8], xs: &[u8], ys: &[u8])
     requires { (q ≤ 256) × (length dst.old ≡ length xs.now) × (length dst.old ≡ length ys.now) × Below q xs.now × Below q ys.now }
     ensures { dst.new ≡ sub_each q xs.now ys.now }
 {
-    let mut i = 0;
-    while i < dst.len() {
-        dst[i] = symbols::sub_mod(q, xs[i], ys[i]);
-        i += 1;
+    for (i, d) in dst.iter_mut().enumerate() {
+        *d = symbols::sub_mod(q, xs[i], ys[i]);
     }
 }
 

@@ -1,0 +1,8 @@
+-- `add_symbols`: the first i symbols are sums, the rest is as it was.
+use Rattle.std.proofs.Common.{◌+◌, get_or}
+use Rattle.model.specs.Symbols.{add}
+use Rattle.theory.specs.Written.{Written}
+use Rattle.sums.proofs.add_symbols.Given as goal
+
+abbrev pub invariant-loop-i : goal.invariant-loop-i
+invariant-loop-i l = Written (λ n x. add (l.top + 1) x (get_or l.src n 0)) l.initial.acc l.i l.acc
