@@ -30,12 +30,7 @@ impl Tally {
         requires { self.changes < 4294967295 }
         ensures { result ≡ record { passes = self.passes; changes = self.changes + 1; start = self.start; end = self.end } }
     {
-        Tally {
-            passes: self.passes,
-            changes: self.changes + 1,
-            start: self.start,
-            end: self.end,
-        }
+        self.changed_by(1)
     }
 
     // So many changes more.
@@ -44,10 +39,8 @@ impl Tally {
         ensures { result ≡ record { passes = self.passes; changes = self.changes + changes; start = self.start; end = self.end } }
     {
         Tally {
-            passes: self.passes,
             changes: self.changes + changes,
-            start: self.start,
-            end: self.end,
+            ..self
         }
     }
 
@@ -55,24 +48,14 @@ impl Tally {
     pub fn ended(self, end: u32) -> Self
         ensures { result ≡ record { passes = self.passes; changes = self.changes; start = self.start; end = end } }
     {
-        Tally {
-            passes: self.passes,
-            changes: self.changes,
-            start: self.start,
-            end,
-        }
+        Tally { end, ..self }
     }
 
     // With the number of passes that were run.
     pub fn passed(self, passes: u32) -> Self
         ensures { result ≡ record { passes = passes; changes = self.changes; start = self.start; end = self.end } }
     {
-        Tally {
-            passes,
-            changes: self.changes,
-            start: self.start,
-            end: self.end,
-        }
+        Tally { passes, ..self }
     }
 }
 
