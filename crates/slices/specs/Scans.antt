@@ -47,7 +47,7 @@ pub weight_none : (s : List ℕ) → weight (take 0 s) ≡ 0
 unfolding weight
 weight_none s = refl
 
-weight_append : (s t : List ℕ) → weight (s ++ t) ≡ weight s + weight t
+pub weight_append : (s t : List ℕ) → weight (s ++ t) ≡ weight s + weight t
 unfolding weight
 weight_append [] t = omega arith
 weight_append (x ∷ s) t = omega (arith, weight_append s t)
@@ -66,7 +66,7 @@ weight_part s a e h =
     ap (λ (n : ℕ). weight (take n s)) (let z : e ≡ a + (e - a) = omega arith in z)
     ∙ ap weight (take-add a (e - a) s) ∙ weight_append (take a s) (take (e - a) (drop a s))
 
-weight_le : (s : List ℕ) → weight s ≤ length s
+pub weight_le : (s : List ℕ) → weight s ≤ length s
 weight_le s = omega (arith, zeros_weight s)
 
 pub weight_take_le : (s : List ℕ) (i : ℕ) → weight (take i s) ≤ i

@@ -14,14 +14,13 @@ fn higher(a: u8, b: u8) -> u8
 }
 
 // The highest symbol of a slice, 0 where it is empty.
+#[tactic(auto, using(crate::specs::Scans::highest_turn), unfolding(crate::specs::Scans::highest))]
 fn highest_of(s: &[u8]) -> u8
     ensures { result ≡ highest s.now }
 {
     let mut top = 0;
-    let mut i = 0;
-    while i < s.len() {
-        top = higher(top, s[i]);
-        i += 1;
+    for x in s {
+        top = higher(top, *x);
     }
     top
 }
@@ -38,15 +37,13 @@ pub fn all_below(q: u32, s: &[u8]) -> bool
     (highest_of(s) as u32) < q
 }
 
-// src written over dst.
+// src written over dst; not by `copy_from_slice`, which calls memmove.
 pub fn copy_into(dst: &mut [u8], src: &[u8])
     requires { length dst.old ≡ length src.now }
     ensures { dst.new ≡ src.now }
 {
-    let mut i = 0;
-    while i < dst.len() {
-        dst[i] = src[i];
-        i += 1;
+    for (i, d) in dst.iter_mut().enumerate() {
+        *d = src[i];
     }
 }
 
@@ -54,14 +51,13 @@ pub fn copy_into(dst: &mut [u8], src: &[u8])
 pub fn clear(s: &mut [u8])
     ensures { s.new ≡ tabulate (length s.old) (λ i. 0) }
 {
-    let mut i = 0;
-    while i < s.len() {
-        s[i] = 0;
-        i += 1;
+    for x in s.iter_mut() {
+        *x = 0;
     }
 }
 
 // 1 where a symbol is not 0, else 0.
+#[tactic(auto, unfolding(model::specs::Symbols::differ))]
 fn nonzero(x: u8) -> u8
     ensures { result ≡ differ x 0 }
 {
@@ -69,39 +65,27 @@ fn nonzero(x: u8) -> u8
 }
 
 // The weight of a part, counted in a byte.
+#[tactic(auto, using(crate::specs::Scans::weight_turn, theory::specs::Counting::differ_le), unfolding(model::specs::Symbols::weight))]
 fn weight_of_part(s: &[u8]) -> u8
     requires { length s.now ≤ 255 }
     ensures { result ≡ weight s.now }
 {
     let mut n: u8 = 0;
-    let mut i = 0;
-    while i < s.len() {
-        n += nonzero(s[i]);
-        i += 1;
+    for x in s {
+        n += nonzero(*x);
     }
     n
 }
 
-// The end of the part that starts at a, within n: at most 224 symbols, which a byte counts, and a whole number of 32-symbol turns.
-fn part_end(a: usize, n: usize) -> usize
-    requires { a < n }
-    ensures { (a < result) × (result ≤ n) × (result ≤ a + 255) }
-{
-    if 224 < n - a { a + 224 } else { n }
-}
-
-// How many symbols are not 0, part by part, so that a byte holds each part's count.
+// How many symbols are not 0, part by part: of at most 224 symbols, which a byte counts, and a whole number of 32-symbol turns.
+#[tactic(auto, using(crate::specs::Scans::weight_append, crate::specs::Scans::weight_le), unfolding(model::specs::Symbols::weight))]
 pub fn weight_of(s: &[u8]) -> u32
     requires { length s.now ≤ 8192 }
     ensures { result ≡ weight s.now }
 {
     let mut n: u32 = 0;
-    let mut a = 0;
-    while a < s.len() {
-        let e = part_end(a, s.len());
-        let w = weight_of_part(&s[a..e]);
-        n += w as u32;
-        a = e;
+    for part in s.chunks(224) {
+        n += weight_of_part(part) as u32;
     }
     n
 }
