@@ -21,6 +21,7 @@ fn odd_term(n: usize, term: usize) -> usize
 
 // b times n, by sums: some processors have no product of 64 bits. b is halved and n doubled; where b is odd, what n has become
 // is added. With one branch it is n.
+#[tactic(auto, using(crate::specs::Sizes::halved))]
 pub fn times(b: usize, n: usize) -> usize
     requires { b * n ≤ 18446744073709551615 }
     ensures { result ≡ b * n }
@@ -31,6 +32,7 @@ pub fn times(b: usize, n: usize) -> usize
     let mut sum: usize = 0;
     let mut term = n;
     let mut rest = b;
+    // kept: what is left is halved, so that no range or slice says how many turns there are
     while 1 < rest {
         sum += odd_term(rest, term);
         term += term;
@@ -58,6 +60,7 @@ pub fn checks_each(code: Params, positions: usize) -> usize
     }
     let mut each: usize = 0;
     let mut rest = positions;
+    // kept: the number of turns is the quotient that is looked for
     while code.b <= rest {
         rest -= code.b;
         each += 1;

@@ -5,6 +5,7 @@ ghost use Rattle.std.specs.Prelude.{◌≡◌, ◌+◌, ◌%◌, ◌<◌, ◌≤
 ghost use Rattle.model.specs.Symbols.{add, sub, same};
 
 // 1 where two symbols are equal, else 0.
+#[tactic(auto, unfolding(model::specs::Symbols::same))]
 pub fn equal(a: u8, b: u8) -> u8
     ensures { (result ≡ same a b) × (result ≤ 1) }
 {
@@ -23,6 +24,7 @@ fn carried(top: u8, a: u8, room: u8) -> u8
 }
 
 // The sum modulo top + 1, without a remainder or a branch.
+#[tactic(auto, using(crate::specs::Sums::wrapped_sum))]
 pub fn add_mod(top: u8, a: u8, b: u8) -> u8
     requires { (a ≤ top) × (b ≤ top) }
     ensures { result ≡ add (top + 1) a b }
@@ -33,6 +35,7 @@ pub fn add_mod(top: u8, a: u8, b: u8) -> u8
 }
 
 // The difference modulo q, without a remainder: a − b where b is at most a (no borrow), a + q − b otherwise (one borrow of q).
+#[tactic(auto, using(theory::specs::Modulo::sub_two_cases))]
 pub fn sub_mod(q: u32, a: u8, b: u8) -> u8
     requires { (q ≤ 256) × (a < q) × (b < q) }
     ensures { result ≡ sub q a b }
