@@ -1,6 +1,8 @@
 -- Laws of positions that fit, and of the run of a branch as it is lent.
-use Rattle.std.specs.Prelude.{◌≡◌, Bool, true, List, [], ◌∷◌, ℕ, zero, suc, ◌+◌, ◌-◌, ◌*◌, ◌≤◌, ◌<◌, length, get_or, take, drop}
-use Rattle.std.proofs.Common.{◌∙◌, add-one, arith}
+use Rattle.std.specs.Prelude.{◌≡◌, Bool, true, List, [], ◌∷◌, ℕ, zero, suc, ◌+◌, ◌-◌, ◌*◌, ◌≤◌, ◌<◌, ◌++◌, min, length, get_or, take, drop}
+use Rattle.std.proofs.Common.{◌∙◌, sym, ap, add-one, arith, length-drop}
+use Rattle.std.proofs.lemmas.List.{take_at, drop_at, drop-drop}
+use Rattle.std.proofs.Math.Decide.{dec_lt}
 use Rattle.model.specs.Calls.{positions_fit}
 use Rattle.model.specs.Code.{Code, checks_each, branch_at, self_orthogonal, differences, all_different}
 use Rattle.model.specs.Limits.{SizeLimits, TableLimits}
@@ -44,6 +46,40 @@ module _ (c : Code) (r at each : ℕ) (e : at ≡ r * checks_each c) (f : each �
 
   pub lent_inside : SizeLimits c → r < c.b → at + each ≤ length c.positions
   lent_inside s h = omega (arith, run_inside c s r h, e, f)
+
+-- the runs as `chunks` lends them: `left` is what is left after r of them
+module _ (c : Code) (s : SizeLimits c) (r : ℕ) (few : r ≤ c.b) (size : ℕ) (left : List ℕ) (e : size ≡ checks_each c) (is : left ≡ drop (r * checks_each c) c.positions) where
+  left_length : length left ≡ length c.positions - r * checks_each c
+  left_length = ap length is ∙ length-drop (r * checks_each c) c.positions
+
+  -- the next part is run r
+  pub run_next : (part rest : List ℕ) → (left ≡ part ++ rest) × (length part ≡ min size (length left)) × (0 < length left)
+      → (r < c.b) × (part ≡ branch_at c r) × (rest ≡ drop ((r + 1) * checks_each c) c.positions)
+  unfolding branch_at
+  run_next part rest (f, l, some) = (below, of, on)
+    where
+      below : r < c.b
+      below = elim (dec_lt r c.b) as (λ o. r < c.b) [
+        | yes h ↦ h
+        | no n ↦ let z : r * checks_each c ≡ c.b * checks_each c = ap (λ (x : ℕ). x * checks_each c) (omega arith) in absurd (omega (arith, z, left_length, s.runs, some))
+      ]
+
+      whole : length part ≡ checks_each c
+      whole = omega (arith, run_inside c s r below, left_length, l, e)
+
+      of : part ≡ take (checks_each c) (drop (r * checks_each c) c.positions)
+      of = sym (take_at part rest (checks_each c) whole) ∙ ap (take (checks_each c)) (sym f ∙ is)
+
+      on : rest ≡ drop ((r + 1) * checks_each c) c.positions
+      on = sym (drop_at part rest (checks_each c) whole) ∙ ap (drop (checks_each c)) (sym f ∙ is)
+          ∙ drop-drop (checks_each c) (r * checks_each c) c.positions ∙ ap (λ (n : ℕ). drop n c.positions) (omega arith)
+
+  -- where nothing is left these were all
+  pub run_last : length left ≡ 0 → r ≡ c.b
+  run_last z = elim (dec_lt r c.b) as (λ o. r ≡ c.b) [
+    | yes h ↦ absurd (omega (arith, run_inside c s r h, left_length, s.J-low, z))
+    | no n ↦ omega arith
+  ]
 
 -- what the differences tell
 pub orthogonal_told : (c : Code) → TableLimits c → (r : Bool) → r ≡ all_different (differences c) → r ≡ self_orthogonal c

@@ -22,6 +22,7 @@ fn folded(k: usize, d: usize) -> usize
 }
 
 // 1 where a value is half of k, else 0.
+#[tactic(auto, unfolding(model::specs::Symbols::same))]
 fn is_half(v: usize, k: usize) -> u8
     requires { v + v ≤ k }
     ensures { result ≡ same (v + v) k }
@@ -34,15 +35,12 @@ fn mark_from(k: usize, b: usize, later: &[u16], seen: &mut [u8]) -> bool
     requires { (positions_fit k (b + 1) later.now ≡ true) × (k < length seen.old + length seen.old) }
     ensures { marks_of result seen.new ≡ mark (folded_from k b later.now) seen.old }
 {
-    let mut l = 0;
-    while l < later.len() {
-        let a = later[l] as usize;
-        let v = folded(k, a - b);
+    for a in later {
+        let v = folded(k, *a as usize - b);
         if seen[v] != 0 {
             return false;
         }
         seen[v] = 1;
-        l += 1;
     }
     true
 }
@@ -52,11 +50,8 @@ fn mark_run(k: usize, run: &[u16], seen: &mut [u8]) -> bool
     requires { (positions_fit k 0 run.now ≡ true) × (k < length seen.old + length seen.old) }
     ensures { marks_of result seen.new ≡ mark (folded_by k run.now) seen.old }
 {
-    let mut i = 0;
-    while i < run.len() {
-        let b = run[i] as usize;
-        i += 1;
-        if !mark_from(k, b, &run[i..], seen) {
+    for (i, b) in run.iter().enumerate() {
+        if !mark_from(k, *b as usize, &run[i + 1..], seen) {
             return false;
         }
     }
@@ -74,20 +69,16 @@ fn differences_differ(code: Params, positions: &[u16], seen: &mut [u8]) -> bool
     let half = code.k / 2;
     seen[half] = is_half(half, code.k);
     let each = params::checks_each(code, positions.len());
-    let mut at = 0;
-    let mut marked = 0;
-    while marked < code.b {
-        let end = at + each;
-        if !mark_run(code.k, &positions[at..end], seen) {
+    for part in positions.chunks(each) {
+        if !mark_run(code.k, part, seen) {
             return false;
         }
-        at = end;
-        marked += 1;
     }
     true
 }
 
 // The table is self-orthogonal. A smaller code clears fewer flags.
+#[tactic(auto, using(crate::specs::Positions::orthogonal_told))]
 pub fn self_orthogonal(code: Params, positions: &[u16]) -> bool
     requires { TableLimits (code_by code positions.now) }
     ensures { result ≡ self_orthogonal (code_by code positions.now) }
