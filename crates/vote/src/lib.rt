@@ -7,15 +7,14 @@ ghost use Rattle.model.specs.Vote.{goes_before, leader, other_count};
 ghost use Rattle.vote.specs.Leading.{lead_of, vote_of};
 
 // How often v stands among the estimates.
+#[tactic(auto, using(theory::specs::Turns::count_turn), unfolding(model::specs::Symbols::count))]
 pub fn count_equal(es: &[u8], v: u8) -> u8
     requires { length es.now ≤ 255 }
     ensures { result ≡ count v es.now }
 {
     let mut n: u8 = 0;
-    let mut i = 0;
-    while i < es.len() {
-        n += symbols::equal(v, es[i]);
-        i += 1;
+    for e in es {
+        n += symbols::equal(v, *e);
     }
     n
 }
@@ -56,6 +55,7 @@ fn first_in(es: &[u8], best: Commonest, a: u8) -> Commonest
 
 // The leader of the estimates, and its count. One that is more than half of them is found without a look at the rest: no other value
 // stands as often.
+#[tactic(auto, using(theory::specs::Turns::first_turn, crate::specs::Leading::more_than_half), unfolding(model::specs::Vote::leader, model::specs::Vote::first_by))]
 fn leader_of(es: &[u8]) -> Commonest
     requires { (0 < length es.now) × (length es.now ≤ 255) }
     ensures { result ≡ lead_of es.now (leader es.now) }
@@ -65,14 +65,12 @@ fn leader_of(es: &[u8]) -> Commonest
         value: first,
         count: count_equal(es, first),
     };
-    let mut i = 0;
-    while i < es.len() {
+    for a in es {
         let m = best.count as usize;
         if es.len() < m + m {
             return best;
         }
-        best = first_in(es, best, es[i]);
-        i += 1;
+        best = first_in(es, best, *a);
     }
     best
 }
@@ -99,15 +97,14 @@ fn larger_other(es: &[u8], h: u8, m: u8, a: u8) -> u8
 }
 
 // The largest count among the values other than h.
+#[tactic(auto, using(theory::specs::Turns::other_turn), unfolding(model::specs::Vote::other_by))]
 fn next_count(es: &[u8], h: u8) -> u8
     requires { length es.now ≤ 255 }
     ensures { result ≡ other_count es.now h es.now }
 {
     let mut m: u8 = 0;
-    let mut i = 0;
-    while i < es.len() {
-        m = larger_other(es, h, m, es[i]);
-        i += 1;
+    for a in es {
+        m = larger_other(es, h, m, *a);
     }
     m
 }
@@ -122,6 +119,7 @@ pub struct Vote {
 }
 
 // The vote over 2 to 33 estimates: each is a candidate, and its count is taken over all of them.
+#[tactic(auto, unfolding(model::specs::Vote::lead_count, model::specs::Vote::next_count, model::specs::Vote::zero_count))]
 pub fn vote_over(es: &[u8]) -> Vote
     requires { (2 ≤ length es.now) × (length es.now ≤ 33) }
     ensures { result ≡ vote_of es.now }
@@ -134,8 +132,8 @@ pub fn vote_over(es: &[u8]) -> Vote
     Vote {
         leader: h,
         lead: m,
-        next: next,
-        zeros: zeros,
+        next,
+        zeros,
     }
 }
 
@@ -146,14 +144,11 @@ pub fn most_other(es: &[u8]) -> u8
 {
     let mut counters = [0u8; 256];
     let mut most: u8 = 0;
-    let mut i = 0;
-    while i < es.len() {
-        let v = es[i];
-        let e = v as usize;
+    for v in es {
+        let e = *v as usize;
         let n = counters[e] + 1;
         counters[e] = n;
-        most = raised(most, 0, v, n);
-        i += 1;
+        most = raised(most, 0, *v, n);
     }
     most
 }
