@@ -13,11 +13,8 @@ fn count_each(es: &[u8], counters: &mut [u8])
     requires { (length es.now ≤ 33) × (counters.old ≡ zero_counters 256) }
     ensures { counters.new ≡ counted 256 es.now }
 {
-    let mut i = 0;
-    while i < es.len() {
-        let e = es[i] as usize;
-        counters[e] = counters[e] + 1;
-        i += 1;
+    for e in es {
+        counters[*e as usize] += 1;
     }
 }
 
@@ -26,66 +23,54 @@ fn clear_each(es: &[u8], counters: &mut [u8])
     requires { counters.old ≡ counted 256 es.now }
     ensures { counters.new ≡ zero_counters 256 }
 {
-    let mut i = 0;
-    while i < es.len() {
-        let e = es[i] as usize;
-        counters[e] = 0;
-        i += 1;
+    for e in es {
+        counters[*e as usize] = 0;
     }
 }
 
 // The leader of the estimates by the counters, and its count.
+#[tactic(auto, using(theory::specs::Turns::first_turn, vote::specs::Leading::lead_first), unfolding(model::specs::Vote::first_by))]
 fn leader_by(es: &[u8], counters: &[u8]) -> Commonest
     requires { (0 < length es.now) × (length counters.now ≡ 256) }
     ensures { result ≡ lead_by (held counters.now) (first_by (held counters.now) (get_or es.now 0 0) es.now) }
 {
     let first = es[0];
-    let lead = counters[first as usize];
     let mut best = Commonest {
         value: first,
-        count: lead,
+        count: counters[first as usize],
     };
-    let mut i = 0;
-    while i < es.len() {
-        let a = es[i];
-        let n = counters[a as usize];
-        best = vote::first_of(best, a, n);
-        i += 1;
+    for a in es {
+        best = vote::first_of(best, *a, counters[*a as usize]);
     }
     best
 }
 
 // The largest counter of an estimate other than h.
+#[tactic(auto, using(theory::specs::Turns::other_turn), unfolding(model::specs::Vote::other_by))]
 fn next_by(es: &[u8], counters: &[u8], h: u8) -> u8
     requires { length counters.now ≡ 256 }
     ensures { result ≡ other_by (held counters.now) h es.now }
 {
     let mut m: u8 = 0;
-    let mut i = 0;
-    while i < es.len() {
-        let a = es[i];
-        let n = counters[a as usize];
-        m = vote::raised(m, h, a, n);
-        i += 1;
+    for a in es {
+        m = vote::raised(m, h, *a, counters[*a as usize]);
     }
     m
 }
 
 // What the vote tells, as read from the counters, whatever these hold.
+#[tactic(auto, unfolding(model::specs::Vote::votes_read, model::specs::Vote::votes_by))]
 fn read_vote(es: &[u8], counters: &[u8]) -> Vote
     requires { (0 < length es.now) × (length counters.now ≡ 256) }
     ensures { result ≡ as_vote (votes_read counters.now es.now) }
 {
     let best = leader_by(es, counters);
     let h = best.value;
-    let m = best.count;
-    let next = next_by(es, counters, h);
-    let zeros = counters[0];
     Vote {
         leader: h,
-        lead: m,
-        next: next,
-        zeros: zeros,
+        lead: best.count,
+        next: next_by(es, counters, h),
+        zeros: counters[0],
     }
 }
 
