@@ -43,26 +43,14 @@ impl Place {
         requires { self.symbol < 4096 }
         ensures { result ≡ along_place self }
     {
-        Place {
-            symbol: self.symbol + 1,
-            start: self.start,
-            end: self.end,
-            first: self.first,
-            last: self.last,
-        }
+        self.at(self.symbol + 1)
     }
 
     // Symbol number j, in the same branch.
     pub fn at(self, j: usize) -> Self
         ensures { result ≡ record { symbol = j; start = self.start; end = self.end; first = self.first; last = self.last } }
     {
-        Place {
-            symbol: j,
-            start: self.start,
-            end: self.end,
-            first: self.first,
-            last: self.last,
-        }
+        Place { symbol: j, ..self }
     }
 
     // The same symbol number, in the next branch.
@@ -81,6 +69,7 @@ impl Place {
 }
 
 // The place of a data symbol, found branch by branch: no division is needed.
+#[tactic(auto, using(crate::specs::Numbers::walked_none, crate::specs::Numbers::walked_on, crate::specs::Numbers::walked_few))]
 pub fn place_of(code: Params, each: usize, symbol: usize) -> Place
     requires { (1 ≤ code.k) × (code.k ≤ 4096) × (each ≤ 256) × (symbol < 4096) }
     ensures { result ≡ place_by code.k each symbol }
@@ -88,6 +77,7 @@ pub fn place_of(code: Params, each: usize, symbol: usize) -> Place
     let k = code.k;
     let mut start = 0;
     let mut first = 0;
+    // kept: the number of turns is the quotient that is looked for
     while start + k <= symbol {
         start += k;
         first += each;
@@ -133,11 +123,8 @@ pub fn gather(code: Params, positions: &[u16], j: usize, own: u8, s: &[u8], es: 
     ensures { es.new ≡ estimates_by code.k positions.now j own s.now }
 {
     es[0] = own;
-    let mut i = 0;
-    while i < positions.len() {
-        let c = check_of(code.k, j, positions[i]);
-        i += 1;
-        es[i] = s[c];
+    for (i, p) in positions.iter().enumerate() {
+        es[i + 1] = s[check_of(code.k, j, *p)];
     }
 }
 
@@ -172,10 +159,8 @@ pub fn subtract_at(code: Params, positions: &[u16], j: usize, h: u8, s: &mut [u8
         × Below code.q s.old }
     ensures { s.new ≡ subtract_at code.q h (checks_by code.k positions.now j) s.old }
 {
-    let mut i = 0;
-    while i < positions.len() {
-        let c = check_of(code.k, j, positions[i]);
+    for p in positions {
+        let c = check_of(code.k, j, *p);
         s[c] = symbols::sub_mod(code.q, s[c], h);
-        i += 1;
     }
 }
