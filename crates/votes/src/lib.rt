@@ -31,15 +31,9 @@ fn sum_pairs(lists: &[u8], each: usize) -> u32
     requires { (2 ≤ each) × (each ≤ 33) }
     ensures { result ≡ sum_of_votes each lists.now (length lists.now / each) }
 {
-    let n = lists.len() / each;
     let mut sum: u32 = 0;
-    let mut at = 0;
-    let mut i = 0;
-    while i < n {
-        let end = at + each;
-        sum = added(sum, vote::vote_over(&lists[at..end]));
-        at = end;
-        i += 1;
+    for es in lists.chunks_exact(each) {
+        sum = added(sum, vote::vote_over(es));
     }
     sum
 }
@@ -50,20 +44,15 @@ fn sum_counted(lists: &[u8], each: usize, counters: &mut [u8]) -> u32
     ensures told { result ≡ sum_of_votes each lists.now (length lists.now / each) }
     ensures kept { counters.new ≡ counters.old }
 {
-    let n = lists.len() / each;
     let mut sum: u32 = 0;
-    let mut at = 0;
-    let mut i = 0;
-    while i < n {
-        let end = at + each;
-        sum = added(sum, counters::vote_counted(&lists[at..end], counters));
-        at = end;
-        i += 1;
+    for es in lists.chunks_exact(each) {
+        sum = added(sum, counters::vote_counted(es, counters));
     }
     sum
 }
 
 // A round of votes pair by pair.
+#[tactic(auto, using(theory::specs::Answers::within_facts), unfolding(crate::specs::Checksum::checksum))]
 #[unsafe(no_mangle)]
 pub extern "C" fn qmtd_bench_votes_pairs(lists: &[u8], each: u32) -> u32
     ensures { result ≡ checksum each lists.now }
@@ -76,6 +65,7 @@ pub extern "C" fn qmtd_bench_votes_pairs(lists: &[u8], each: u32) -> u32
 }
 
 // A round of votes by 256 lent counters, all zero before and after; 0 where they are not.
+#[tactic(auto, using(theory::specs::Answers::within_facts, theory::specs::Counters::fit_zero), unfolding(crate::specs::Checksum::checksum))]
 #[unsafe(no_mangle)]
 pub extern "C" fn qmtd_bench_votes_counted(lists: &[u8], each: u32, counters: &mut [u8]) -> u32
     ensures told { result ≡ choose (counters_fit counters.old) (checksum each lists.now) 0 }
