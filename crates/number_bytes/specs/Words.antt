@@ -1,8 +1,17 @@
 -- Numbers written as bytes, four for each: the counts, the changes of a pass, the answer of explain.
-use Rattle.std.specs.Prelude.{◌≡◌, List, ◌++◌, ℕ, ◌/◌, ◌%◌, length}
-use Rattle.std.proofs.Common.{ap, ◌∙◌, append-nil, arith, drop_of_length-le}
+use Rattle.std.specs.Prelude.{◌≡◌, List, ◌++◌, ℕ, ◌+◌, ◌/◌, ◌%◌, ◌≤◌, length, take, drop}
+use Rattle.std.proofs.Common.{ap, sym, ◌∙◌, append-nil, append_assoc, arith, drop_of_length-le}
+use Rattle.std.proofs.lemmas.List.{drop-drop}
 use Rattle.std.proofs.lemmas.List.Edits.{sets, sets-eq}
+use borrow.Rule.Slice.PartMut.{put_mid}
 use Rattle.model.specs.Bytes.{word_of, bytes_of, explained_bytes}
+
+-- ---- bytes copied over a part of a slice are stores, one after the other
+
+pub part_stored : (bytes d : List ℕ) (at k : ℕ) → at + length bytes ≤ length d → k ≡ length bytes → put_mid at k d bytes ≡ sets d at bytes
+part_stored bytes d at k h e =
+    ap (λ (m : ℕ). put_mid at m d bytes) e ∙ ap (λ (l : List ℕ). take at d ++ (bytes ++ l)) (drop-drop (length bytes) at d)
+    ∙ sym (append_assoc (take at d) bytes (drop (at + length bytes) d)) ∙ sym (sets-eq bytes d at h)
 
 -- ---- the counts
 

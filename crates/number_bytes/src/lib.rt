@@ -11,13 +11,11 @@ pub fn put_word(d: &mut [u8], at: usize, n: u32)
     requires { at + 4 ≤ length d.old }
     ensures { d.new ≡ sets d.old at (word_of n) }
 {
-    d[at] = (n % 256) as u8;
-    d[at + 1] = (n / 256 % 256) as u8;
-    d[at + 2] = (n / 65536 % 256) as u8;
-    d[at + 3] = (n / 16777216 % 256) as u8;
+    d[at..at + 4].copy_from_slice(&n.to_le_bytes());
 }
 
 // The 16 bytes of the counts.
+#[tactic(auto, using(crate::specs::Words::counts_written))]
 pub fn put_counts(d: &mut [u8], passes: u32, changes: u32, start: u32, end: u32)
     requires { length d.old ≡ 16 }
     ensures { d.new ≡ bytes_of (record { passes = passes; changes = changes; start = start; end = end }) }
@@ -37,6 +35,7 @@ pub fn put_changes(d: &mut [u8], changes: u32)
 }
 
 // The 24 bytes of the answer of explain: four numbers, and the bits in two halves.
+#[tactic(auto, using(crate::specs::Words::answer_written))]
 pub fn put_answer(d: &mut [u8], ground: u32, leader: u32, lead: u32, next: u32, bits: u64)
     requires { length d.old ≡ 24 }
     ensures { d.new ≡ explained_bytes (record { ground_number = ground; leader = leader; lead = lead; next = next; bits = bits }) }
