@@ -40,12 +40,9 @@ pub fn read_positions(table: &[u8], positions: &mut [u16]) -> usize
         return 0;
     }
     let mut last: u8 = 0;
-    let mut i: usize = 0;
-    while i < len {
-        let byte = table[i];
-        positions[i / 2] = position(last, byte);
-        last = byte;
-        i += 1;
+    for (i, byte) in table.iter().enumerate() {
+        positions[i / 2] = position(last, *byte);
+        last = *byte;
     }
     len / 2
 }
