@@ -21,11 +21,7 @@ use params::Params;
 pub fn twos_of(x: i32) -> u32
     ensures { result ≡ twos x }
 {
-    if x < 0 {
-        4294967295 - ((-1 - x) as u32)
-    } else {
-        x as u32
-    }
+    x.cast_unsigned()
 }
 
 // Four bytes for the margin of every data symbol, one by one, branch by branch, from S and D and the zeros at the checks of each.
@@ -46,18 +42,17 @@ fn write_each(
     ensures { (r : List ℕ) → out.new ≡ margin_bytes (margins_of (code_by code positions.now) (state_by r s.now d.now)) }
 {
     let mut place = Place::opening(code.k, params::checks_each(code, positions.len()));
+    // Kept: a place goes from branch to branch; a `for` over branches would carry it along all the same.
     while place.symbol < d.len() {
         let first = place.first;
         let last = place.last;
         let run = &positions[first..last];
-        while place.symbol < place.end {
-            let j = place.symbol;
+        for j in place.symbol..place.end {
             let index = j - place.start;
             let m = margins::margin_at(bits, code, run, index, d[j], zeros[j], s);
             number_bytes::put_word(out, 4 * j, twos_of(m));
-            place = place.along();
         }
-        place = place.onward(code.k);
+        place = place.at(place.end).onward(code.k);
     }
 }
 
@@ -71,11 +66,9 @@ pub fn write_by_zeros(each: u8, zeros: &[u8], d: &[u8], out: &mut [u8])
         × (length out.old ≡ 4 * length d.now) }
     ensures { out.new ≡ margin_bytes (map (zeros_margin each zeros.now d.now) (tabulate (length d.now) (λ i. i))) }
 {
-    let mut i = 0;
-    while i < d.len() {
-        let m = firm_symbols::margin_by_zeros(each, margins::zeros_with(d[i], zeros[i]));
+    for (i, own) in d.iter().enumerate() {
+        let m = firm_symbols::margin_by_zeros(each, margins::zeros_with(*own, zeros[i]));
         number_bytes::put_word(out, 4 * i, twos_of(m));
-        i += 1;
     }
 }
 
@@ -107,10 +100,7 @@ fn write_doubtful(
     let first = place.first;
     let last = place.last;
     let run = &positions[first..last];
-    let mut next = place.symbol;
-    while next < end {
-        let j = next;
-        next += 1;
+    for j in place.symbol..end {
         let own = d[j];
         let n = margins::zeros_with(own, zeros[j]);
         if n < each {
@@ -140,6 +130,7 @@ fn write_others(
     let checks = params::checks_each(code, positions.len());
     let each = checks as u8;
     let mut place = Place::opening(code.k, checks);
+    // Kept, both: a place goes from branch to branch, and within one past as many firm symbols as there are in a row.
     while place.symbol < d.len() {
         while place.symbol < place.end {
             let from = firm_symbols::past_firm(each, zeros, d, place.symbol, place.end);
@@ -198,10 +189,8 @@ pub fn write_firm(n: u8, count: usize, out: &mut [u8])
     requires { (n ≤ 33) × (count ≤ 4096) × (length out.old ≡ 4 * count) }
     ensures { out.new ≡ margin_bytes (map (λ j. pos n -ℤ pos 0) (tabulate count (λ j. j))) }
 {
-    let mut i = 0;
-    while i < count {
+    for i in 0..count {
         number_bytes::put_word(out, 4 * i, twos_of(margins::margin_of(n, 0)));
-        i += 1;
     }
 }
 

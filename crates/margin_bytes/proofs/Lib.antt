@@ -1,0 +1,2 @@
+-- What the loops over the symbols of a branch share.
+pub mod Turns
