@@ -23,10 +23,8 @@ pub fn count_equal(es: &[u32], v: u32) -> u32
     ensures { result ≡ count v es.now }
 {
     let mut n: u32 = 0;
-    let mut i = 0;
-    while i < es.len() {
-        n += equal(v, es[i]);
-        i += 1;
+    for e in es {
+        n += equal(v, *e);
     }
     n
 }
@@ -76,14 +74,12 @@ pub fn leader_of(es: &[u32]) -> Commonest
         value: first,
         count: count_equal(es, first),
     };
-    let mut i = 0;
-    while i < es.len() {
+    for e in es {
         let m = best.count as usize;
         if es.len() < m + m {
             return best;
         }
-        best = first_in(es, best, es[i]);
-        i += 1;
+        best = first_in(es, best, *e);
     }
     best
 }
@@ -115,10 +111,8 @@ pub fn next_count(es: &[u32], h: u32) -> u32
     ensures { result ≡ other_count es.now h es.now }
 {
     let mut m: u32 = 0;
-    let mut i = 0;
-    while i < es.len() {
-        m = larger_other(es, h, m, es[i]);
-        i += 1;
+    for e in es {
+        m = larger_other(es, h, m, *e);
     }
     m
 }
@@ -145,8 +139,8 @@ pub fn vote_over(es: &[u32]) -> Vote
     Vote {
         leader: h,
         lead: m,
-        next: next,
-        zeros: zeros,
+        next,
+        zeros,
     }
 }
 
@@ -163,15 +157,13 @@ fn may_lead(es: &[u32], bound: u8) -> bool
     ensures { result ≡ false → lead_count es.now ≤ bound }
 {
     let mut counters = [0u8; 256];
-    let mut i = 0;
-    while i < es.len() {
-        let e = low_byte(es[i]) as usize;
-        let n = counters[e] + 1;
+    for e in es {
+        let low = low_byte(*e) as usize;
+        let n = counters[low] + 1;
         if bound < n {
             return true;
         }
-        counters[e] = n;
-        i += 1;
+        counters[low] = n;
     }
     false
 }
@@ -202,9 +194,7 @@ pub fn bits_of(es: &[u32], h: u32) -> u64
     ensures { result ≡ equal_bits es.now h }
 {
     let mut bits: u64 = 0;
-    let mut i = es.len();
-    while 0 < i {
-        i -= 1;
+    for i in (0..es.len()).rev() {
         bits = bits + bits + (equal(es[i], h) as u64);
     }
     bits
