@@ -4,6 +4,7 @@
 ghost use Rattle.std.specs.Prelude.{◌≡◌, ◌+◌, ◌*◌, ◌<◌, ◌≤◌, length};
 ghost use Rattle.std.proofs.lemmas.List.Edits.{sets};
 ghost use Rattle.model.specs.Bytes.{bytes_in};
+ghost use Rattle.model.specs.Calls.{within};
 ghost use Rattle.model.specs.Files.{number_at, entry_bytes, contents_end, entry_at, entry_fits};
 ghost use Rattle.file_entries.specs.Entries.{entry_from, entry_in};
 
@@ -16,20 +17,12 @@ pub struct Entry {
     pub size: usize,
 }
 
-fn wide(x: u8) -> usize
-    ensures { (result ≡ x) × (result < 256) }
-{
-    x as usize
-}
-
 // The number in two bytes.
 pub fn two_at(s: &[u8], start: usize) -> usize
     requires { start + 2 ≤ length s.now }
     ensures { (result ≡ number_at s.now start 2) × (result < 65536) }
 {
-    let low = wide(s[start]);
-    let high = wide(s[start + 1]);
-    low + 256 * high
+    usize::from(u16::from_le_bytes([s[start], s[start + 1]]))
 }
 
 // The number in four bytes.
@@ -37,9 +30,7 @@ pub fn four_at(s: &[u8], start: usize) -> usize
     requires { start + 4 ≤ length s.now }
     ensures { (result ≡ number_at s.now start 4) × (result < 4294967296) }
 {
-    let low = two_at(s, start);
-    let high = two_at(s, start + 2);
-    low + 65536 * high
+    u32::from_le_bytes([s[start], s[start + 1], s[start + 2], s[start + 3]]) as usize
 }
 
 // Where the count and so many entries end. The product is one of 32 bits: of 64 a Cortex-M0 would need a function from outside.
@@ -57,7 +48,7 @@ pub fn entry_at(file: &[u8], place: usize) -> Entry
 {
     let start = contents_end(place);
     let number = two_at(file, start);
-    let top = wide(file[start + 2]);
+    let top = usize::from(file[start + 2]);
     let offset = four_at(file, start + 3);
     let size = four_at(file, start + 7);
     Entry {
@@ -68,7 +59,16 @@ pub fn entry_at(file: &[u8], place: usize) -> Entry
     }
 }
 
+// Whether x is from low to high.
+#[tactic(auto, unfolding(model::specs::Calls::within))]
+fn within(low: usize, high: usize, x: usize) -> bool
+    ensures { result ≡ within low high x }
+{
+    low <= x && x <= high
+}
+
 // Whether an entry keeps the rules, where its page number may be `least` or more, its body must start at `start`, and the file ends at `end`.
+#[tactic(auto, unfolding(model::specs::Files::entry_fits))]
 pub fn entry_fits(e: Entry, least: usize, start: usize, end: usize) -> bool
     requires { (e.offset < 4294967296) × (e.size < 4294967296) }
     ensures { result ≡ entry_fits least start end (entry_in e) }
@@ -76,22 +76,13 @@ pub fn entry_fits(e: Entry, least: usize, start: usize, end: usize) -> bool
     if e.number < least {
         return false;
     }
-    if e.top < 2 {
+    if !within(2, 255, e.top) {
         return false;
     }
-    if 255 < e.top {
+    if !within(2, 8192, e.size) {
         return false;
     }
-    if e.size < 2 {
-        return false;
-    }
-    if 8192 < e.size {
-        return false;
-    }
-    if e.offset != start {
-        return false;
-    }
-    e.offset + e.size <= end
+    e.offset == start && e.offset + e.size <= end
 }
 
 // Two bytes of a number.
@@ -99,8 +90,7 @@ pub fn put_two(d: &mut [u8], at: usize, n: usize)
     requires { at + 2 ≤ length d.old }
     ensures { d.new ≡ sets d.old at (bytes_in 2 n) }
 {
-    d[at] = (n % 256) as u8;
-    d[at + 1] = (n / 256 % 256) as u8;
+    d[at..at + 2].copy_from_slice(&((n % 65536) as u16).to_le_bytes());
 }
 
 // The 11 bytes of an entry.
