@@ -3,42 +3,30 @@
 
 ghost use Rattle.std.specs.Prelude.{◌≡◌, true, ◌+◌, ◌<◌, ◌≤◌, eqb, leb, length};
 ghost use Rattle.model.specs.Files.{contents_end, entries_fit, listing, listed_from, total, write_answer};
+ghost use Rattle.refusals.specs.Numbers.{answer};
 ghost use Rattle.file_lists.specs.Steps.{symbols_listed};
 
 use file_entries::Entry;
+use refusals::Refusal;
 
-// Numbers of a list as lengths.
-pub fn wide8(x: u8) -> usize
-    ensures { (result ≡ x) × (result < 256) }
-{
-    x as usize
-}
+// The pages and the bytes that a file may have.
+const FEWEST_PAGES: usize = 1;
 
-pub fn wide16(x: u16) -> usize
-    ensures { (result ≡ x) × (result < 65536) }
-{
-    x as usize
-}
+const MOST_PAGES: usize = 64;
 
-pub fn wide32(x: u32) -> usize
-    ensures { (result ≡ x) × (result < 4294967296) }
-{
-    x as usize
-}
+const MOST_BYTES: usize = 65536;
 
 // Whether lengths sum to n. No sum is taken, so none can wrap.
 fn sums_to(sizes: &[u32], n: usize) -> bool
     ensures { result ≡ eqb (total sizes.now) n }
 {
     let mut left = n;
-    let mut i = 0;
-    while i < sizes.len() {
-        let size = wide32(sizes[i]);
+    for size in sizes {
+        let size = *size as usize;
         if left < size {
             return false;
         }
         left -= size;
-        i += 1;
     }
     left == 0
 }
@@ -51,27 +39,21 @@ fn lists_fit(numbers: &[u16], tops: &[u8], sizes: &[u32], end: usize) -> bool
 {
     let mut least = 0;
     let mut start = file_entries::contents_end(numbers.len());
-    let mut i = 0;
-    while i < numbers.len() {
-        let number = wide16(numbers[i]);
-        let top = wide8(tops[i]);
-        let size = wide32(sizes[i]);
-        if !file_entries::entry_fits(
-            Entry {
-                number,
-                top,
-                offset: start,
-                size,
-            },
-            least,
-            start,
-            end,
-        ) {
+    for (i, number) in numbers.iter().enumerate() {
+        let number = usize::from(*number);
+        let top = usize::from(tops[i]);
+        let size = sizes[i] as usize;
+        let entry = Entry {
+            number,
+            top,
+            offset: start,
+            size,
+        };
+        if !file_entries::entry_fits(entry, least, start, end) {
             return false;
         }
         least = number + 1;
-        start = start + size;
-        i += 1;
+        start += size;
     }
     true
 }
@@ -82,15 +64,12 @@ fn bodies_fit(tops: &[u8], sizes: &[u32], bodies: &[u8]) -> bool
     ensures { result ≡ symbols_listed tops.now sizes.now bodies.now }
 {
     let mut start = 0;
-    let mut i = 0;
-    while i < tops.len() {
-        let top = wide8(tops[i]);
-        let end = start + wide32(sizes[i]);
-        if !slices::all_below((top + 1) as u32, &bodies[start..end]) {
+    for (i, top) in tops.iter().enumerate() {
+        let end = start + sizes[i] as usize;
+        if !slices::all_below(u32::from(*top) + 1, &bodies[start..end]) {
             return false;
         }
         start = end;
-        i += 1;
     }
     true
 }
@@ -108,52 +87,56 @@ pub fn has_room(count: usize, bodies: usize, room: usize) -> bool
         return false;
     }
     left -= 2;
-    let mut i: usize = 0;
-    while i < 11 {
+    for _ in 0..11usize {
         if left < count {
             return false;
         }
         left -= count;
-        i += 1;
     }
     true
 }
 
-// The writer's number, for an output of some length.
-pub fn write_answer(numbers: &[u16], tops: &[u8], sizes: &[u32], bodies: &[u8], room: usize) -> u32
-    ensures { result ≡ write_answer true (listing numbers.now tops.now sizes.now bodies.now) room }
+// Whether the lists may be written, for an output of some length, and else why not.
+pub fn write_answer(
+    numbers: &[u16],
+    tops: &[u8],
+    sizes: &[u32],
+    bodies: &[u8],
+    room: usize,
+) -> Result<(), Refusal>
+    ensures { answer result ≡ write_answer true (listing numbers.now tops.now sizes.now bodies.now) room }
 {
     let count = numbers.len();
     if tops.len() != count {
-        return 6;
+        return Err(Refusal::Length);
     }
     if sizes.len() != count {
-        return 6;
+        return Err(Refusal::Length);
     }
     if !sums_to(sizes, bodies.len()) {
-        return 6;
+        return Err(Refusal::Length);
     }
     if !has_room(count, bodies.len(), room) {
-        return 6;
+        return Err(Refusal::Length);
     }
-    if count < 1 {
-        return 13;
+    if count < FEWEST_PAGES {
+        return Err(Refusal::Contents);
     }
-    if 64 < count {
-        return 13;
+    if MOST_PAGES < count {
+        return Err(Refusal::Contents);
     }
-    if 65536 < bodies.len() {
-        return 13;
+    if MOST_BYTES < bodies.len() {
+        return Err(Refusal::Contents);
     }
     let end = file_entries::contents_end(count) + bodies.len();
-    if 65536 < end {
-        return 13;
+    if MOST_BYTES < end {
+        return Err(Refusal::Contents);
     }
     if !lists_fit(numbers, tops, sizes, end) {
-        return 14;
+        return Err(Refusal::Entry);
     }
     if !bodies_fit(tops, sizes, bodies) {
-        return 15;
+        return Err(Refusal::Body);
     }
-    0
+    Ok(())
 }
