@@ -1,5 +1,5 @@
 -- What the reader hands back, and one turn of each of its loops.
-use Rattle.std.specs.Prelude.{◌≡◌, Bool, false, ◌&&◌, List, [], ◌∷◌, ℕ, suc, ◌+◌, ◌-◌, ◌<◌, ◌≤◌, eqb, ltb, leb, length, take, drop}
+use Rattle.std.specs.Prelude.{◌≡◌, Bool, false, ◌&&◌, List, [], ◌∷◌, ℕ, suc, ◌+◌, ◌-◌, ◌<◌, ◌≤◌, eqb, ltb, leb, length, take, drop, Result, Ok, Err}
 use Rattle.std.proofs.Math.Path.{refl}
 use Rattle.std.proofs.Common.{ap, sym, ◌∙◌, arith, length-drop, drop_of_length-le, drop-drop, take_all}
 use Rattle.std.proofs.Math.Bool.{true}
@@ -15,11 +15,17 @@ use Rattle.theory.specs.FileBytes.{and_make, entry_same, entry-fits}
 use Rattle.theory.proofs.Files.{read_accepted}
 use Rattle.file_entries.specs.declared.Entry.{Entry}
 use Rattle.file_entries.specs.Entries.{entry_from, entry_in}
+use Rattle.refusals.specs.declared.Refusal.{Refusal}
+use Rattle.refusals.specs.Numbers.{answer}
 use Rattle.file_reader.specs.declared.Found.{Found}
 
--- what is found, as an outcome
-abbrev pub outcome_of : Found → Outcome format.Entry
-outcome_of f = record { number = f.answer; left = record { number = f.number; top = f.top; offset = f.offset; size = f.size } }
+-- the entry that is found, zeros where the reader refuses, and this as an outcome
+abbrev pub entry_found : Result Found Refusal → format.Entry
+entry_found (Ok f) = record { number = f.number; top = f.top; offset = f.offset; size = f.size }
+entry_found (Err _) = no_entry
+
+abbrev pub outcome_of : Result Found Refusal → Outcome format.Entry
+outcome_of r = record { number = answer r; left = entry_found r }
 
 -- where the bodies of entries that fit end, 0 where they don't fit
 unfoldable pub end_from : ℕ → ℕ → ℕ → List format.Entry → ℕ
@@ -206,6 +212,7 @@ pub part_rest : (file : List ℕ) (offset size : ℕ) → length file - offset <
 part_rest file offset size h =
     take_all (length file - offset) (drop offset file) (omega (arith, length-drop offset file)) ∙ sym (take_all size (drop offset file) (omega (arith, length-drop offset file)))
 
-pub found_part : (file : List ℕ) (place : ℕ) (r : Found) → outcome_of r ≡ read_outcome file place → take r.size (drop r.offset file) ≡ read_body file place
+pub found_part : (file : List ℕ) (place : ℕ) (r : Result Found Refusal) → outcome_of r ≡ read_outcome file place
+    → take (entry_found r).size (drop (entry_found r).offset file) ≡ read_body file place
 unfolding read_body part_of
 found_part file place r e = ap (λ (o : Outcome format.Entry). take o.left.size (drop o.left.offset file)) e

@@ -1,38 +1,46 @@
 // The reader of a file of pages: a page is found by its place in the contents, and its body is handed out as a part of the file.
 #![tactic(auto)]
 
-ghost use Rattle.std.specs.Prelude.{◌≡◌, true, ◌+◌, ◌≤◌, length, take, drop};
+ghost use Rattle.std.specs.Prelude.{◌≡◌, true, ◌+◌, ◌<◌, ◌≤◌, length, take, drop, MatchOption};
 ghost use Rattle.model.specs.Files.{contents_end, entries_from, sizes_of, total, symbols_fit, read_answer, read_outcome, read_body};
-ghost use Rattle.file_reader.specs.Turns.{end_from};
+ghost use Rattle.refusals.specs.Numbers.{answer};
+ghost use Rattle.file_reader.specs.Turns.{entry_found, end_from};
 
-// What the reader finds: its number, and the page's number, q − 1, offset and length; zeros where it is refused.
+use refusals::Refusal;
+
+// The pages and the bytes that a file may have.
+const FEWEST_PAGES: usize = 1;
+
+const MOST_PAGES: usize = 64;
+
+const MOST_BYTES: usize = 65536;
+
+// What the reader finds: the page's number, q − 1, offset and length.
 #[derive(Clone, Copy)]
 pub struct Found {
-    pub answer: u32,
     pub number: u32,
     pub top: u32,
     pub offset: u32,
     pub size: u32,
 }
 
-// Where the last body ends, or 0 where an entry breaks a rule.
-fn bodies_end(file: &[u8], count: usize) -> usize
+// Where the last body ends; none where an entry breaks a rule.
+fn bodies_end(file: &[u8], count: usize) -> Option<usize>
     requires { (contents_end count ≤ length file.now) × (count ≤ 64) }
-    ensures { result ≡ end_from 0 (contents_end count) (length file.now) (entries_from file.now 0 count) }
+    ensures { let end = end_from 0 (contents_end count) (length file.now) (entries_from file.now 0 count) in
+        MatchOption result (end ≡ 0) (λ n. (n ≡ end) × (0 < n)) }
 {
     let mut least = 0;
     let mut start = file_entries::contents_end(count);
-    let mut i = 0;
-    while i < count {
+    for i in 0..count {
         let e = file_entries::entry_at(file, i);
         if !file_entries::entry_fits(e, least, start, file.len()) {
-            return 0;
+            return None;
         }
         least = e.number + 1;
         start = e.offset + e.size;
-        i += 1;
     }
-    start
+    Some(start)
 }
 
 // Whether no symbol of a body is above its q − 1.
@@ -41,79 +49,65 @@ fn symbols_fit(file: &[u8], count: usize) -> bool
     ensures { result ≡ symbols_fit (entries_from file.now 0 count) (drop (contents_end count) file.now) }
 {
     let mut start = file_entries::contents_end(count);
-    let mut i = 0;
-    while i < count {
+    for i in 0..count {
         let e = file_entries::entry_at(file, i);
         let end = start + e.size;
         if !slices::all_below((e.top + 1) as u32, &file[start..end]) {
             return false;
         }
         start = end;
-        i += 1;
     }
     true
 }
 
-// The reader's number.
-fn read_answer(file: &[u8], place: usize) -> u32
-    ensures { result ≡ read_answer true file.now place }
+// Whether the reader finds a page, and else why not.
+fn read_answer(file: &[u8], place: usize) -> Result<(), Refusal>
+    ensures { answer result ≡ read_answer true file.now place }
 {
-    if 65536 < file.len() {
-        return 13;
+    if MOST_BYTES < file.len() {
+        return Err(Refusal::Contents);
     }
     if file.len() < 2 {
-        return 13;
+        return Err(Refusal::Contents);
     }
     let count = file_entries::two_at(file, 0);
-    if count < 1 {
-        return 13;
+    if count < FEWEST_PAGES {
+        return Err(Refusal::Contents);
     }
-    if 64 < count {
-        return 13;
+    if MOST_PAGES < count {
+        return Err(Refusal::Contents);
     }
     if file.len() < file_entries::contents_end(count) {
-        return 13;
+        return Err(Refusal::Contents);
     }
-    let end = bodies_end(file, count);
-    if end == 0 {
-        return 14;
-    }
+    let Some(end) = bodies_end(file, count) else {
+        return Err(Refusal::Entry);
+    };
     if count <= place {
-        return 14;
+        return Err(Refusal::Entry);
     }
     if end != file.len() {
-        return 15;
+        return Err(Refusal::Body);
     }
     if !symbols_fit(file, count) {
-        return 15;
+        return Err(Refusal::Body);
     }
-    0
+    Ok(())
 }
 
 // Finds a page by its place in the contents, from 0. The whole file is tested.
-pub fn find(file: &[u8], place: u32) -> Found
-    ensures { record { number = result.answer; left = record { number = result.number; top = result.top; offset = result.offset; size = result.size } }
-        ≡ read_outcome file.now place }
+pub fn find(file: &[u8], place: u32) -> Result<Found, Refusal>
+    ensures { record { number = answer result; left = entry_found result } ≡ read_outcome file.now place }
 {
     let at = place as usize;
-    let answer = read_answer(file, at);
-    if answer != 0 {
-        return Found {
-            answer,
-            number: 0,
-            top: 0,
-            offset: 0,
-            size: 0,
-        };
-    }
+    read_answer(file, at)?;
     let e = file_entries::entry_at(file, at);
-    Found {
-        answer,
+    Ok(Found {
         number: e.number as u32,
         top: e.top as u32,
         offset: e.offset as u32,
         size: e.size as u32,
-    }
+    })
 }
 
 // The part of a file from an offset on, as much of it as is there: of what `find` found the page's body, with no second test of the file.
@@ -136,6 +130,8 @@ pub fn part(file: &[u8], offset: u32, size: u32) -> &[u8]
 pub fn body(file: &[u8], place: u32) -> &[u8]
     ensures { result.now ≡ read_body file.now place }
 {
-    let found = find(file, place);
-    part(file, found.offset, found.size)
+    match find(file, place) {
+        Ok(found) => part(file, found.offset, found.size),
+        Err(_) => &file[..0],
+    }
 }
