@@ -1,5 +1,5 @@
 -- Page numbers and lengths read from bytes, and the outcomes of the C forms.
-use Rattle.std.specs.Prelude.{◌≡◌, Bool, false, ◌&&◌, List, [], ◌∷◌, ◌++◌, ℕ, zero, suc, ◌+◌, ◌*◌, ◌<◌, ◌≤◌, eqb, length, get_or, set, take}
+use Rattle.std.specs.Prelude.{◌≡◌, Bool, false, ◌&&◌, List, [], ◌∷◌, ◌++◌, ℕ, zero, suc, ◌+◌, ◌*◌, ◌<◌, ◌≤◌, eqb, length, get_or, set, take, Result}
 use Rattle.std.proofs.Math.Path.{refl, ap, sym}
 use Rattle.std.proofs.Common.{◌∙◌, append-nil, add-one, arith, drop_of_length-le, take_all, take-suc, take-suc-set}
 use Rattle.std.proofs.Math.Bool.{true}
@@ -14,7 +14,9 @@ use Rattle.theory.specs.WideBytes.{symbols_length, symbol-at, positions_symbols}
 use Rattle.position_bytes.specs.Positions.{kept}
 use Rattle.model.specs.Files.{number_at, Entry, entry_at, total, read_tests, read_answer, no_entry, read_outcome, Listing, listing, contents_end, file_length, lists_agree, write_tests, write_answer, Written, filled, write_outcome, entry_words, c_read_outcome, c_listing, c_lists_fit, c_write_outcome}
 use Rattle.theory.proofs.Files.{write_taken}
-use Rattle.file_reader.specs.Turns.{outcome_of}
+use Rattle.refusals.specs.declared.Refusal.{Refusal}
+use Rattle.refusals.specs.Numbers.{answer}
+use Rattle.file_reader.specs.Turns.{entry_found, outcome_of}
 use Rattle.file_reader.specs.declared.Found.{Found}
 use Rattle.file_lists.specs.Steps.{Agrees, write_6, write_13}
 
@@ -113,16 +115,16 @@ module _ (file : List ℕ) (place : ℕ) (entry : List ℕ) where
   read_unfit h =
       left_as_lent _ _ entry 6 (sym (refused_by 6 (eqb (length entry) 16) _ (ne_eqb (length entry) 16 h))) (λ e. absurd (omega (arith, e)))
 
-  module _ (fits : length entry ≡ 16) (f : Found) (e : outcome_of f ≡ read_outcome file place) where
-    answer_is : f.answer ≡ read_answer (eqb (length entry) 16) file place
+  module _ (fits : length entry ≡ 16) (f : Result Found Refusal) (e : outcome_of f ≡ read_outcome file place) where
+    answer_is : answer f ≡ read_answer (eqb (length entry) 16) file place
     unfolding read_outcome outcome
     answer_is = ap (λ (o : Outcome Entry). o.number) e ∙ ap (λ (b : Bool). read_answer b file place) (sym (eq-eqb (length entry) 16 fits))
 
-    pub read_refused : (f.answer ≡ 0 → ⊥) → ◌≡◌ {A = Outcome (List ℕ)} (record { number = f.answer; left = entry }) (c_read_outcome file place entry)
+    pub read_refused : (answer f ≡ 0 → ⊥) → ◌≡◌ {A = Outcome (List ℕ)} (record { number = answer f; left = entry }) (c_read_outcome file place entry)
     unfolding c_read_outcome
-    read_refused z = left_as_lent _ _ entry f.answer answer_is z
+    read_refused z = left_as_lent _ _ entry (answer f) answer_is z
 
-    pub read_done : (x : List ℕ) → f.answer ≡ 0 → x ≡ entry_words (record { number = f.number; top = f.top; offset = f.offset; size = f.size })
+    pub read_done : (x : List ℕ) → answer f ≡ 0 → x ≡ entry_words (entry_found f)
         → ◌≡◌ {A = Outcome (List ℕ)} (record { number = 0; left = x }) (c_read_outcome file place entry)
     unfolding c_read_outcome read_outcome outcome
     read_done x z w =

@@ -4,31 +4,33 @@
 ghost use Rattle.std.specs.Prelude.{◌≡◌, true, ◌*◌, ◌/◌, ◌%◌, ◌≤◌, eqb, length, set, take};
 ghost use Rattle.model.specs.Bytes.{symbols_of};
 ghost use Rattle.model.specs.Files.{total, entry_words, c_read_outcome, c_lists_fit, c_write_outcome};
+ghost use Rattle.refusals.specs.Numbers.{answer};
 
-// The 16 bytes of an entry.
-fn put_words(d: &mut [u8], number: u32, top: u32, offset: u32, size: u32)
+use file_reader::Found;
+use refusals::Refusal;
+
+// The 16 bytes of an entry found.
+#[tactic(auto, using(crate::specs::Lists::words_written))]
+fn put_words(d: &mut [u8], found: Found)
     requires { length d.old ≡ 16 }
-    ensures { d.new ≡ entry_words (record { number = number; top = top; offset = offset; size = size }) }
+    ensures { d.new ≡ entry_words (record { number = found.number; top = found.top; offset = found.offset; size = found.size }) }
 {
-    number_bytes::put_word(d, 0, number);
-    number_bytes::put_word(d, 4, top);
-    number_bytes::put_word(d, 8, offset);
-    number_bytes::put_word(d, 12, size);
+    number_bytes::put_word(d, 0, found.number);
+    number_bytes::put_word(d, 4, found.top);
+    number_bytes::put_word(d, 8, found.offset);
+    number_bytes::put_word(d, 12, found.size);
 }
 
 // Finds a page by its place in the contents. The entry is written only when the call is done.
-pub fn read(file: &[u8], place: u32, entry: &mut [u8]) -> u32
-    ensures { record { number = result; left = entry.new } ≡ c_read_outcome file.now place entry.old }
+pub fn read(file: &[u8], place: u32, entry: &mut [u8]) -> Result<(), Refusal>
+    ensures { record { number = answer result; left = entry.new } ≡ c_read_outcome file.now place entry.old }
 {
     if entry.len() != 16 {
-        return 6;
+        return Err(Refusal::Length);
     }
-    let found = file_reader::find(file, place);
-    if found.answer != 0 {
-        return found.answer;
-    }
-    put_words(entry, found.number, found.top, found.offset, found.size);
-    0
+    let found = file_reader::find(file, place)?;
+    put_words(entry, found);
+    Ok(())
 }
 
 // Whether the lists have 2, 1 and 4 bytes a page, and the file's length 4 bytes. No product is taken, so none can wrap.
@@ -69,15 +71,13 @@ fn read_lengths(bytes: &[u8], n: usize, sizes: &mut [u32]) -> bool
 {
     let count = bytes.len() / 4;
     let mut left = n;
-    let mut i = 0;
-    while i < count {
+    for i in 0..count {
         let size = file_entries::four_at(bytes, 4 * i);
         if left < size {
             return false;
         }
         left -= size;
         keep(sizes, i, size as u32);
-        i += 1;
     }
     left == 0
 }
@@ -90,30 +90,27 @@ pub fn write(
     bodies: &[u8],
     output: &mut [u8],
     length: &mut [u8],
-) -> u32
-    ensures { record { number = result; left = record { size = length.new; output = output.new } }
+) -> Result<(), Refusal>
+    ensures { record { number = answer result; left = record { size = length.new; output = output.new } }
         ≡ c_write_outcome numbers.now tops.now lengths.now bodies.now output.old length.old }
 {
     if !lists_fit(numbers.len(), tops.len(), lengths.len(), length.len()) {
-        return 6;
+        return Err(Refusal::Length);
     }
     let count = tops.len();
     let mut sizes = [0u32; 64];
     if !read_lengths(lengths, bodies.len(), &mut sizes) {
-        return 6;
+        return Err(Refusal::Length);
     }
     if !file_lists::has_room(count, bodies.len(), output.len()) {
-        return 6;
+        return Err(Refusal::Length);
     }
     if 64 < count {
-        return 13;
+        return Err(Refusal::Contents);
     }
     let mut few = [0u16; 64];
     let n = position_bytes::read_positions(numbers, &mut few);
-    let wrote = file_writer::write(&few[..n], tops, &sizes[..count], bodies, output);
-    if wrote.number != 0 {
-        return wrote.number;
-    }
-    number_bytes::put_changes(length, wrote.length as u32);
-    0
+    let wrote = file_writer::write(&few[..n], tops, &sizes[..count], bodies, output)?;
+    number_bytes::put_changes(length, wrote as u32);
+    Ok(())
 }
