@@ -9,7 +9,7 @@ ghost use Rattle.model.specs.Files.{c_read_outcome, c_write_outcome};
 pub extern "C" fn qmtd_file_read(file: &[u8], place: u32, entry: &mut [u8]) -> u32
     ensures { record { number = result; left = entry.new } ≡ c_read_outcome file.now place entry.old }
 {
-    c_files::read(file, place, entry)
+    refusals::answer(c_files::read(file, place, entry))
 }
 
 // Writes a file of pages.
@@ -25,5 +25,5 @@ pub extern "C" fn qmtd_file_write(
     ensures { record { number = result; left = record { size = length.new; output = output.new } }
         ≡ c_write_outcome numbers.now tops.now lengths.now bodies.now output.old length.old }
 {
-    c_files::write(numbers, tops, lengths, bodies, output, length)
+    refusals::answer(c_files::write(numbers, tops, lengths, bodies, output, length))
 }
