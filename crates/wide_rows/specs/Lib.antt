@@ -1,0 +1,2 @@
+-- The numbers of symbols that are lent in parts.
+pub mod Halves
