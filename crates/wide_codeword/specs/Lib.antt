@@ -1,0 +1,2 @@
+-- The rows of wide symbols, branch by branch.
+pub mod Parts
