@@ -1,0 +1,2 @@
+-- The code of wide symbols.
+pub mod Own
