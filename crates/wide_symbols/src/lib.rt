@@ -5,7 +5,7 @@ ghost use Rattle.std.specs.Prelude.{◌≡◌, ℕ, List, ◌+◌, ◌<◌, ◌�
 ghost use Rattle.std.proofs.lemmas.List.Edits.{sets};
 ghost use Rattle.model.specs.Bytes.{symbol_size, number_of, bytes_in};
 ghost use Rattle.model.specs.Code.{Profile, wide16, wide32, highest};
-ghost use Rattle.model.specs.Symbols.{add, sub, same, differ, weight, tabulate, add_each, sub_each};
+ghost use Rattle.model.specs.Symbols.{Below, add, sub, same, differ, weight, tabulate, add_each, sub_each};
 ghost use Rattle.wide_symbols.specs.Numbers.{IsNumbers, numbers_themselves};
 ghost use Rattle.wide_symbols.specs.Widths.{IsWide, two_bytes, four_bytes};
 
@@ -48,6 +48,10 @@ pub trait WideSymbol: Copy {
     fn put(self, bytes: &mut [u8], at: usize)
         requires { at + SIZE ≤ length bytes.old }
         ensures { bytes.new ≡ sets bytes.old at (bytes_in SIZE (number self)) };
+
+    // Every symbol is below q. It does nothing, since the type says so: a function over any symbol learns it by a call.
+    fn all_below(s: &[Self])
+        ensures { Below (highest profile) (numbers s.now) };
 
     // What holds of every such symbol.
     ghost are_numbers: { IsNumbers number numbers };
@@ -95,6 +99,8 @@ impl WideSymbol for u16 {
     fn put(self, bytes: &mut [u8], at: usize) {
         pairs::put(bytes, at, self)
     }
+
+    fn all_below(_s: &[u16]) {}
 }
 
 impl WideSymbol for u32 {
@@ -137,6 +143,8 @@ impl WideSymbol for u32 {
     fn put(self, bytes: &mut [u8], at: usize) {
         words::put(bytes, at, self)
     }
+
+    fn all_below(_s: &[u32]) {}
 }
 
 // 1 where a symbol is 0, else 0.
