@@ -1,0 +1,20 @@
+use Rattle.std.proofs.Common.{map, ℕ, ◌+◌, pos, ◌-ℤ◌, sym, ap, ◌∙◌}
+use Rattle.model.specs.Bytes.{margin_bytes}
+use Rattle.model.specs.Decoder.{state_by, state_weight}
+use Rattle.model.specs.Symbols.{tabulate}
+use Rattle.margins.specs.Margins.{margins_firm}
+use Rattle.wide_symbols.specs.Codes.{wide_code_by}
+use Rattle.wide_symbols.specs.Numbers.{numbers_length}
+use Rattle.wide_margin_bytes.proofs.put_margins.Goals as goal
+
+pub returns-then-end-eq0 : goal.returns-then-end-eq0
+unfolding state_weight
+returns-then-end-eq0 g c r =
+    let h = g.S.WideSymbol in
+    let a = c.args in
+    let p = c.requires.0 in
+    let each = c.checks_each-each in
+    c.write_firm.ensures
+    ∙ ap (λ (m : ℕ). margin_bytes (map (λ j. pos (each.result + 1) -ℤ pos 0) (tabulate m (λ j. j)))) (sym (numbers_length g.met.S.WideSymbol.are_numbers a.d.now) ∙ p.len_difference)
+    ∙ ap margin_bytes (margins_firm (wide_code_by h.profile a.code a.positions.now) p.checks.table (state_by r (h.numbers a.s.now) (h.numbers a.d.now)) _ (ap (λ (m : ℕ). m + 1) each.ensures)
+    (sym p.weighed ∙ c.if-end-eq0.true))
