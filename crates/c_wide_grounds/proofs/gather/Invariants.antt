@@ -1,0 +1,11 @@
+-- `gather`: the first i + 1 estimates are written: the own difference, and the syndrome at the checks by the first i positions.
+use Rattle.std.proofs.Common.{◌≡◌, ◌∷◌, ◌+◌, take}
+use Rattle.model.specs.Bytes.{symbol_size, symbols_of}
+use Rattle.model.specs.Code.{checks_by}
+use Rattle.model.specs.Symbols.{symbols_at}
+use Rattle.c_wide_grounds.proofs.gather.Given as goal
+
+abbrev pub invariant-loop-i : goal.invariant-loop-i
+invariant-loop-i g l =
+    let h = g.S.WideSymbol in
+    take (l.i + 1) l.es ≡ h.number l.fn.own ∷ symbols_at (symbols_of (symbol_size h.profile) l.s) (checks_by l.code.k (take l.i l.positions) l.j)
