@@ -6,8 +6,9 @@ use Rattle.std.proofs.Math.Seq.{take_at}
 use Rattle.std.proofs.lemmas.List.{append-nil}
 use Rattle.std.proofs.lemmas.List.Edits.{sets, sets-eq}
 use Rattle.model.specs.Bytes.{symbol_size, number_of, bytes_in, symbols_of, symbol_bytes}
-use Rattle.model.specs.Code.{Profile}
-use Rattle.theory.specs.WideBytes.{bytes_length, symbols_length}
+use Rattle.model.specs.Code.{Profile, highest}
+use Rattle.model.specs.Symbols.{Below}
+use Rattle.theory.specs.WideBytes.{bytes_length, symbols_length, symbols_below}
 use Rattle.wide_bytes.specs.Turns.{symbol_more}
 use Rattle.wide_symbols.specs.Numbers.{IsNumbers, numbers_length, numbers_set}
 use Rattle.wide_symbols.specs.Widths.{IsWide, two_bytes, four_bytes, wide_size}
@@ -24,6 +25,11 @@ wide_place four_bytes i n z e h = rw e (record { inside = omega arith; low = ome
 pub wide_some : {f : Profile} {w : ℕ} → IsWide f w → 0 < symbol_size f
 wide_some two_bytes = omega arith
 wide_some four_bytes = omega arith
+
+-- the symbols of bytes are below q
+pub wide_below : {f : Profile} {w : ℕ} → IsWide f w → (s : List ℕ) → Below 256 s → Below (highest f) (symbols_of (symbol_size f) s)
+wide_below two_bytes s low = symbols_below 2 s low
+wide_below four_bytes s low = symbols_below 4 s low
 
 -- the number of the bytes of symbol i, as they are read
 pub read_size : {f : Profile} {w : ℕ} → IsWide f w → (z : ℕ) → z ≡ w → (bytes : List ℕ) (i : ℕ)
