@@ -1,0 +1,2 @@
+-- What the calls on pages of symbols work on.
+pub mod Works
