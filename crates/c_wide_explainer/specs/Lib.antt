@@ -1,0 +1,2 @@
+-- Lengths by what is counted.
+pub mod Fits
