@@ -1,17 +1,16 @@
 -- A page in bytes, its data and its checks apart: its syndrome, the page that is written in two parts, and what opening leaves.
 use borrow.Rule.Slice.PartMut.{put_mid, Post-is}
-use Rattle.std.specs.Prelude.{◌≡◌, refl, List, ◌++◌, ℕ, ◌-◌, ◌*◌, ◌^◌, ◌<◌, drop}
+use Rattle.std.specs.Prelude.{◌≡◌, refl, List, ◌++◌, ℕ, ◌-◌, ◌*◌, ◌<◌, drop}
 use Rattle.std.proofs.Math.Path.{sym, ap}
 use Rattle.std.proofs.Common.{◌∙◌, append-nil, arith, length-append, length-drop, take_at, take_all}
 use Rattle.std.proofs.Math.ListN.{length, take}
 use Rattle.std.proofs.Math.Seq.{drop-length}
-use Rattle.model.specs.Bytes.{symbol_size, symbols_of, symbol_bytes, state_written}
-use Rattle.model.specs.Code.{Profile, highest, Code, data_count, check_count, page_length, syndrome}
+use Rattle.model.specs.Bytes.{symbols_of, symbol_bytes, state_written}
+use Rattle.model.specs.Code.{Code, data_count, check_count, page_length, syndrome}
 use Rattle.model.specs.Decoder.{state_by, opened}
 use Rattle.model.specs.Symbols.{Below, tabulate}
 use Rattle.theory.specs.Distance.{length_tabulate}
 use Rattle.c_wide.specs.Pages.{page_parts, data_written, zeros_written}
-use Rattle.wide_symbols.specs.Widths.{IsWide, two_bytes, four_bytes}
 
 module _ (c : Code) (x y u v s : List ℕ) (e : x ≡ u) (f : y ≡ v) (h : s ≡ syndrome c (x ++ y)) where
   pub syndrome_parts : s ≡ syndrome c (u ++ v)
@@ -41,8 +40,3 @@ module _ (c : Code) (w : ℕ) (pos : 0 < w) (page : List ℕ) (low : Below 256 p
       er ∙ ap (λ (m : ℕ). take m page) e ∙ sym (data_written w pos (data_count c) (check_count c) page low whole) in
       let difference : d ≡ symbol_bytes w (tabulate (data_count c) (λ i. 0)) = ed ∙ sym (zeros_written w (data_count c)) in
       λ i. state_by (result i) (es i) (difference i)
-
--- the numbers that the bytes of a wide symbol make are below q
-pub wide_values : {f : Profile} {n : ℕ} → IsWide f n → 256 ^ symbol_size f ≡ highest f
-wide_values two_bytes = refl
-wide_values four_bytes = refl

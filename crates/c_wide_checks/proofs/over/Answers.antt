@@ -2,9 +2,8 @@ use Rattle.std.proofs.Common.{sym, ap, subst, ◌∙◌, length, arith}
 use Rattle.model.specs.Bytes.{symbol_size}
 use Rattle.model.specs.Code.{highest}
 use Rattle.model.specs.Symbols.{Below}
-use Rattle.theory.specs.WideBytes.{symbols_length, symbols_below}
-use Rattle.c_wide_checks.specs.Parts.{wide_values}
-use Rattle.wide_bytes.specs.Places.{wide_some}
+use Rattle.theory.specs.WideBytes.{symbols_length}
+use Rattle.wide_bytes.specs.Places.{wide_some, wide_below}
 use Rattle.c_wide_checks.proofs.over.Goals as goal
 
 pub write_syndrome-requires : goal.write_syndrome-requires
@@ -16,7 +15,7 @@ write_syndrome-requires g c =
       record {
         len = ap length c.read_symbols.ensures ∙ symbols_length w (wide_some wide) _ bytes c.requires.1;
         low = subst (Below (highest g.S.WideSymbol.profile)) (sym c.read_symbols.ensures)
-            (rw (wide_values wide) at (symbols_below w bytes (λ i. omega (arith, c.type_inv.«data» i))));
+            (wide_below wide bytes (λ i. omega (arith, c.type_inv.«data» i)));
       },
       omega (arith, c.requires.4, c.read_symbols-2.auto.out),
     )

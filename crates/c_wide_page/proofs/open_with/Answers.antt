@@ -1,0 +1,42 @@
+use Rattle.std.proofs.Common.{sym, ◌∙◌, arith}
+use Rattle.model.specs.Bytes.{symbol_size, symbols_of, state_read}
+use Rattle.model.specs.Decoder.{state_by}
+use Rattle.theory.specs.Outcomes.{left_as_lent, left_as_done}
+use Rattle.wide_symbols.specs.Codes.{wide_code_by}
+use Rattle.wide_answers.specs.Fits.{open_number}
+use Rattle.wide_bytes.specs.Places.{wide_some, wide_below}
+use Rattle.c_wide.specs.Calls.{open_left, open_takes}
+use Rattle.c_wide_page.proofs.open_with.Goals as goal
+
+pub returns-then-number-ne0 : goal.returns-then-number-ne0
+returns-then-number-ne0 g c =
+    let f = g.S.WideSymbol.profile in
+    let code = wide_code_by f c.args.code c.args.positions.now in
+    let u = symbols_of (symbol_size f) c.args.page.now in
+    let lent = state_by c.args.res.now c.args.s.now c.args.d.now in
+    let low = wide_below g.met.S.WideSymbol.is_wide c.args.page.now (λ i. omega (arith, c.type_inv.page i)) in
+    let number = open_number code u _ _ (c.page_answer-number.ensures u low) _ c.data_count-n.ensures _ _ (state_read (symbol_size f) lent) _ _ c.decode_fits-fits.ensures
+    c.count-whole.ensures c.count-sent.ensures c.count-checks.ensures c.count-differences.ensures in
+    left_as_lent _ _ _ _ number c.if-number-ne0.true ∙ sym (open_left code c.args.page.now lent)
+
+pub open_into-requires : goal.open_into-requires
+open_into-requires g c =
+    let f = g.S.WideSymbol.profile in
+    let code = wide_code_by f c.args.code c.args.positions.now in
+    let u = symbols_of (symbol_size f) c.args.page.now in
+    let lent = state_by c.args.res.now c.args.s.now c.args.d.now in
+    let low = wide_below g.met.S.WideSymbol.is_wide c.args.page.now (λ i. omega (arith, c.type_inv.page i)) in
+    let number = open_number code u _ _ (c.page_answer-number.ensures u low) _ c.data_count-n.ensures _ _ (state_read (symbol_size f) lent) _ _ c.decode_fits-fits.ensures
+    c.count-whole.ensures c.count-sent.ensures c.count-checks.ensures c.count-differences.ensures in
+    open_takes code (symbol_size f) (wide_some g.met.S.WideSymbol.is_wide) c.args.page.now lent (sym number ∙ c.if-number-ne0.false)
+
+pub returns : goal.returns
+returns g c =
+    let f = g.S.WideSymbol.profile in
+    let code = wide_code_by f c.args.code c.args.positions.now in
+    let u = symbols_of (symbol_size f) c.args.page.now in
+    let lent = state_by c.args.res.now c.args.s.now c.args.d.now in
+    let low = wide_below g.met.S.WideSymbol.is_wide c.args.page.now (λ i. omega (arith, c.type_inv.page i)) in
+    let number = open_number code u _ _ (c.page_answer-number.ensures u low) _ c.data_count-n.ensures _ _ (state_read (symbol_size f) lent) _ _ c.decode_fits-fits.ensures
+    c.count-whole.ensures c.count-sent.ensures c.count-checks.ensures c.count-differences.ensures in
+    left_as_done _ _ _ _ (sym c.if-number-ne0.false ∙ number) c.open_into.ensures ∙ sym (open_left code c.args.page.now lent)
