@@ -18,10 +18,8 @@ fn add_zeros(acc: &mut [u8], src: &[u8])
     requires { (length acc.old ≡ length src.now) × Below 255 acc.old }
     ensures { acc.new ≡ add_zeros acc.old src.now }
 {
-    let mut i = 0;
-    while i < acc.len() {
-        acc[i] += symbols::equal(0, src[i]);
-        i += 1;
+    for (i, a) in acc.iter_mut().enumerate() {
+        *a += symbols::equal(0, src[i]);
     }
 }
 
@@ -40,10 +38,8 @@ fn count_run(code: Params, positions: &[u16], s: &[u8], zeros: &mut [u8])
     requires { AtChecks code.k positions.now s.now × (length zeros.old ≡ code.k) × Clear zeros.old }
     ensures { zeros.new ≡ run_zeros code.k positions.now s.now }
 {
-    let mut i = 0;
-    while i < positions.len() {
-        add_zeros_from(code.k, positions[i] as usize, zeros, s);
-        i += 1;
+    for p in positions {
+        add_zeros_from(code.k, *p as usize, zeros, s);
     }
 }
 
@@ -58,8 +54,7 @@ pub fn count_zeros(code: Params, positions: &[u16], s: &[u8], zeros: &mut [u8])
     let each = params::checks_each(code, positions.len());
     let mut from = 0;
     let mut at = 0;
-    let mut r = 0;
-    while r < code.b {
+    for _r in 0..code.b {
         count_run(
             code,
             &positions[from..from + each],
@@ -68,6 +63,5 @@ pub fn count_zeros(code: Params, positions: &[u16], s: &[u8], zeros: &mut [u8])
         );
         from += each;
         at += k;
-        r += 1;
     }
 }
