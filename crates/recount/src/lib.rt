@@ -17,11 +17,9 @@ fn recount_run(code: Params, positions: &[u16], c: usize, gained: u8, lost: u8, 
     requires { Recounts code.k positions.now c gained lost zeros.old }
     ensures { zeros.new ≡ recounted code.k positions.now c gained lost zeros.old }
 {
-    let mut i = 0;
-    while i < positions.len() {
-        let x = checks::symbol_of(code.k, c, positions[i]);
+    for p in positions {
+        let x = checks::symbol_of(code.k, c, *p);
         zeros[x] = zeros[x] + gained - lost;
-        i += 1;
     }
 }
 
@@ -52,8 +50,7 @@ pub fn write_check(
     let k = code.k;
     let mut from = 0;
     let mut at = 0;
-    let mut r = 0;
-    while r < code.b {
+    for _r in 0..code.b {
         recount_run(
             code,
             &positions[from..from + each],
@@ -64,7 +61,6 @@ pub fn write_check(
         );
         from += each;
         at += k;
-        r += 1;
     }
 }
 
@@ -86,14 +82,11 @@ pub fn subtract_checks(
     ensures { (s.new ≡ subtract_at code.q h (checks_of (code_by code positions.now) place.symbol) s.old)
         × (zeros.new ≡ zero_counts (code_by code positions.now) s.new) }
 {
-    let first = place.first;
-    let each = place.last - first;
+    let run = &positions[place.first..place.last];
     let index = place.symbol - place.start;
-    let mut i = 0;
-    while i < each {
-        let c = checks::check_of(code.k, index, positions[first + i]);
+    for p in run {
+        let c = checks::check_of(code.k, index, *p);
         let v = symbols::sub_mod(code.q, s[c], h);
-        write_check(code, positions, each, c, v, s, zeros);
-        i += 1;
+        write_check(code, positions, run.len(), c, v, s, zeros);
     }
 }
