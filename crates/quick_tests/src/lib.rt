@@ -7,17 +7,6 @@ ghost use Rattle.checks.specs.Checks.{AtChecks, estimates_by};
 
 use params::Params;
 
-// Whether a position of that number is there and is less than room.
-fn is_before(positions: &[u16], i: usize, room: usize) -> bool
-    ensures before { result ≡ true → (i < length positions.now) × (get_or positions.now i 0 < room) }
-    ensures after { result ≡ false → i < length positions.now → room ≤ get_or positions.now i 0 }
-{
-    if i < positions.len() {
-        return (positions[i] as usize) < room;
-    }
-    false
-}
-
 // Whether the leader's count among the estimates of symbol j of a branch is above the bound, by a counter for each value. The estimates are
 // read where they stand: most visits end with this test, and need them gathered for nothing else. The positions ascend, so those whose check
 // is past the last one, k less j or more, come last: each of the two loops reads straight on.
@@ -31,24 +20,27 @@ pub fn lead_above(code: Params, positions: &[u16], j: usize, own: u8, s: &[u8], 
     let mut counters = [0u8; 256];
     counters[own as usize] = 1;
     let room = code.k - j;
-    let mut i = 0;
-    while is_before(positions, i, room) {
-        let e = s[j + (positions[i] as usize)] as usize;
+    let mut straight = positions.len();
+    for (i, p) in positions.iter().enumerate() {
+        let p = *p as usize;
+        if p >= room {
+            straight = i;
+            break;
+        }
+        let e = s[j + p] as usize;
         let c = counters[e] + 1;
         if bound < c {
             return true;
         }
         counters[e] = c;
-        i += 1;
     }
-    while i < positions.len() {
-        let e = s[(positions[i] as usize) - room] as usize;
+    for p in &positions[straight..] {
+        let e = s[(*p as usize) - room] as usize;
         let c = counters[e] + 1;
         if bound < c {
             return true;
         }
         counters[e] = c;
-        i += 1;
     }
     false
 }
