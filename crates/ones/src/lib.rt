@@ -20,10 +20,8 @@ fn gather(code: Params, positions: &[u16], j: usize, own: u8, s: &[u8]) -> u64
     ensures { result ≡ gathered (estimates_by code.k positions.now j own s.now) }
 {
     let mut word: u64 = 0;
-    let mut i = positions.len();
-    while 0 < i {
-        i -= 1;
-        let c = checks::check_of(code.k, j, positions[i]);
+    for p in positions.iter().rev() {
+        let c = checks::check_of(code.k, j, *p);
         word = word + word + (s[c] as u64);
     }
     word + word + (own as u64)
@@ -61,6 +59,7 @@ pub fn ones_at(code: Params, positions: &[u16], j: usize, own: u8, s: &[u8]) -> 
 }
 
 // What the vote tells, by the ones of a word of n bits: 1 leads where they are more than the zeros, else 0.
+#[tactic(auto, using(crate::specs::Words::vote_ones, crate::specs::Words::vote_zeros))]
 pub fn vote_in(n: usize, word: u64) -> Vote
     requires { (n ≤ 33) × (ones word ≤ n) }
     ensures { result ≡ vote_in n word }
@@ -89,10 +88,8 @@ fn all_bits(n: usize) -> u64
     ensures { result ≡ 2 ^ n - 1 }
 {
     let mut all: u64 = 0;
-    let mut i = 0;
-    while i < n {
+    for _i in 0..n {
         all = all + all + 1;
-        i += 1;
     }
     all
 }
