@@ -65,6 +65,7 @@ fn open_within(
     ensures found { result < end → Open each threshold difference.now zeros.now result }
 {
     let mut j = from;
+    // kept: two in a turn, which a `for` over the symbols is not: a search that may end early is not unrolled.
     while j + 1 < end {
         if is_open_at(each, threshold, bound, difference, zeros, j) {
             return j;
@@ -101,24 +102,11 @@ fn is_open_before(
     false
 }
 
-// The smaller of two numbers of zeros.
-fn smaller(a: u8, b: u8) -> u8
-    ensures { (result ≤ a) × (result ≤ b) }
-{
-    if a < b { a } else { b }
-}
-
 // A number that none of some numbers of zeros is below, the least of them, in one straight run.
 fn least_of(zeros: &[u8]) -> u8
     ensures { (i : ℕ) → i < length zeros.now → result ≤ get_or zeros.now i 0 }
 {
-    let mut least: u8 = 255;
-    let mut i = 0;
-    while i < zeros.len() {
-        least = smaller(least, zeros[i]);
-        i += 1;
-    }
-    least
+    zeros.iter().copied().min().unwrap_or(255)
 }
 
 // From a data symbol on, in blocks of 64, past those in which every symbol has so many zeros at its checks.
@@ -127,8 +115,8 @@ pub fn past_blocks(bound: usize, zeros: &[u8], from: usize, end: usize) -> usize
     ensures { Past bound zeros.now from end result }
 {
     let mut j = from;
-    while 64 <= end - j {
-        if (least_of(&zeros[j..j + 64]) as usize) < bound {
+    for block in zeros[from..end].chunks_exact(64) {
+        if (least_of(block) as usize) < bound {
             return j;
         }
         j += 64;
@@ -166,6 +154,7 @@ fn first_open(
         return from;
     }
     let mut j = from;
+    // kept: how far a turn goes hangs on the zeros.
     while j < end {
         let near = end_near(j, end);
         let at = open_within(each, threshold, bound, difference, zeros, j, near);
