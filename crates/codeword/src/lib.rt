@@ -23,16 +23,13 @@ fn add_rows(q: u32, positions: &[u16], data: &[u8], sums: &mut [u8])
         × SymbolsBelow q (length «data».now) sums.old }
     ensures { sums.new ≡ added q (check_sum_by (length «data».now) positions.now «data».now) sums.old }
 {
-    let mut n = 0;
-    while n + 1 < positions.len() {
-        let p = positions[n] as usize;
-        let r = positions[n + 1] as usize;
-        rows::add_two_rows(q, p, r, sums, data);
-        n += 2;
+    let pairs = positions.chunks_exact(2);
+    let last = pairs.remainder();
+    for pair in pairs {
+        rows::add_two_rows(q, pair[0] as usize, pair[1] as usize, sums, data);
     }
-    if n < positions.len() {
-        let p = positions[n] as usize;
-        rows::add_row(q, p, sums, data);
+    if let Some(p) = last.first() {
+        rows::add_row(q, *p as usize, sums, data);
     }
 }
 
@@ -47,10 +44,9 @@ pub fn add_branches(code: Params, positions: &[u16], data: &[u8], sums: &mut [u8
     let k = code.k;
     let each = params::checks_each(code, positions.len());
     add_rows(code.q, &positions[1..each], &data[..k], sums);
-    let mut r = 1;
     let mut at = k;
     let mut from = each;
-    while r < code.b {
+    for _r in 1..code.b {
         add_rows(
             code.q,
             &positions[from..from + each],
@@ -59,7 +55,6 @@ pub fn add_branches(code: Params, positions: &[u16], data: &[u8], sums: &mut [u8
         );
         at += k;
         from += each;
-        r += 1;
     }
 }
 
