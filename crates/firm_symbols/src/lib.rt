@@ -16,23 +16,14 @@ pub fn margin_by_zeros(each: u8, n: u8) -> i32
     margins::margin_of(each, 1)
 }
 
-// The smaller of two numbers of zeros.
-fn smaller(a: u8, b: u8) -> u8
-    ensures { (result ≤ a) × (result ≤ b) }
-{
-    if a < b { a } else { b }
-}
-
 // A number that the zeros among the estimates of no data symbol are below, the least of them, in one straight run.
 fn least_zeros(zeros: &[u8], d: &[u8]) -> u8
     requires { (length zeros.now ≡ length d.now) × Below 33 zeros.now }
     ensures { (i : ℕ) → i < length d.now → result ≤ zeros_at zeros.now d.now i }
 {
     let mut least: u8 = 255;
-    let mut i = 0;
-    while i < d.len() {
-        least = smaller(least, margins::zeros_with(d[i], zeros[i]));
-        i += 1;
+    for (i, own) in d.iter().enumerate() {
+        least = least.min(margins::zeros_with(*own, zeros[i]));
     }
     least
 }
@@ -43,8 +34,11 @@ pub fn past_firm(bound: u8, zeros: &[u8], d: &[u8], from: usize, end: usize) -> 
     ensures { PastFirm bound (zeros_at zeros.now d.now) from end result }
 {
     let mut j = from;
-    while 32 <= end - j {
-        if least_zeros(&zeros[j..j + 32], &d[j..j + 32]) < bound {
+    for (n, own) in zeros[from..end]
+        .chunks_exact(32)
+        .zip(d[from..end].chunks_exact(32))
+    {
+        if least_zeros(n, own) < bound {
             return j;
         }
         j += 32;
