@@ -11,7 +11,6 @@ ghost use Rattle.ones.specs.Pages.{AllBits};
 ghost use Rattle.zeros.specs.Counts.{zero_counts};
 ghost use Rattle.margins.specs.Margins.{Left};
 
-use checks::Place;
 use params::Params;
 
 // The margin of every data symbol, branch by branch, from S and D and the zeros at the checks of each.
@@ -31,18 +30,18 @@ fn write_margins(
         × AllBits bits s.now d.now }
     ensures { (r : List ℕ) → margins.new ≡ margins_of (code_by code positions.now) (state_by r s.now d.now) }
 {
-    let mut place = Place::opening(code.k, params::checks_each(code, positions.len()));
-    while place.symbol < d.len() {
-        let first = place.first;
-        let last = place.last;
-        let run = &positions[first..last];
-        while place.symbol < place.end {
-            let j = place.symbol;
-            let index = j - place.start;
-            margins[j] = margins::margin_at(bits, code, run, index, d[j], zeros[j], s);
-            place = place.along();
+    let k = code.k;
+    let each = params::checks_each(code, positions.len());
+    let mut from = 0;
+    let mut at = 0;
+    for _r in 0..code.b {
+        let run = &positions[from..from + each];
+        for j in 0..k {
+            let i = at + j;
+            margins[i] = margins::margin_at(bits, code, run, j, d[i], zeros[i], s);
         }
-        place = place.onward(code.k);
+        from += each;
+        at += k;
     }
 }
 
@@ -51,10 +50,8 @@ pub fn write_firm(n: u8, margins: &mut [i32])
     requires { n ≤ 33 }
     ensures { margins.new ≡ map (λ j. pos n -ℤ pos 0) (tabulate (length margins.old) (λ j. j)) }
 {
-    let mut i = 0;
-    while i < margins.len() {
-        margins[i] = margins::margin_of(n, 0);
-        i += 1;
+    for m in margins.iter_mut() {
+        *m = margins::margin_of(n, 0);
     }
 }
 
