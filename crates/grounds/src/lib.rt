@@ -30,10 +30,8 @@ fn bits_of(es: &[u8], h: u8) -> u64
     ensures { result ≡ equal_bits es.now h }
 {
     let mut bits: u64 = 0;
-    let mut i = es.len();
-    while 0 < i {
-        i -= 1;
-        bits = bits + bits + (symbols::equal(es[i], h) as u64);
+    for e in es.iter().rev() {
+        bits = bits + bits + (symbols::equal(*e, h) as u64);
     }
     bits
 }
