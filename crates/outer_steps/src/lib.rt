@@ -32,14 +32,12 @@ fn weakest_of(
 {
     let mut best = first;
     let mut least = reliabilities::reliability_at(code, positions, first, e, s, d);
-    let mut j = first + 1;
-    while j < last {
+    for j in first + 1..last {
         let r = reliabilities::reliability_at(code, positions, j, e, s, d);
         if r < least {
             best = j;
             least = r;
         }
-        j += 1;
     }
     best
 }
@@ -126,6 +124,7 @@ pub fn outer_steps(
     let bound = blocks::bound_of(code.q, block);
     let mut steps: u32 = 0;
     let mut at = blocks::first_broken(code.q, bound, block, res, 0);
+    // kept: how far a turn goes hangs on the page.
     while at < n {
         steps += outer_step(code, positions, block, bound, at, res, syndrome, difference);
         at = blocks::first_broken(code.q, bound, block, res, at + block);
