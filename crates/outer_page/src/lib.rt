@@ -48,11 +48,10 @@ fn write_outer_checks(code: Params, positions: &[u16], block: usize, data: &[u8]
 {
     let bound = blocks::bound_of(code.q, block);
     let mut at = 0;
-    while at < data.len() {
-        let end = at + block;
-        let sum = blocks::sum_of(code.q, bound, &data[at..end]);
-        subtract_symbol(code, positions, end - 1, sum, page);
-        at = end;
+    for part in data.chunks(block) {
+        let sum = blocks::sum_of(code.q, bound, part);
+        at += block;
+        subtract_symbol(code, positions, at - 1, sum, page);
     }
 }
 
