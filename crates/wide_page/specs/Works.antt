@@ -2,15 +2,16 @@
 use Rattle.std.specs.Prelude.{◌≡◌, refl, Bool, ◌&&◌, List, ◌++◌, ℕ, ◌+◌, ◌-◌, eqb, length, take, drop}
 use Rattle.std.proofs.Common.{sym, ap, ◌∙◌, arith, length-drop, take_all, take-append-drop}
 use borrow.Rule.Slice.PartMut.{put_mid}
-use Rattle.model.specs.Calls.{first_that_applies, page_tests, encode_fits, encode_answer, syndrome_fits, syndrome_answer}
+use Rattle.model.specs.Calls.{first_that_applies, page_tests, encode_fits, encode_answer, syndrome_fits, syndrome_answer, open_answer}
 use Rattle.model.specs.Code.{Code, data_count, check_count, page_length, code_word, check_symbols}
+use Rattle.model.specs.Decoder.{state_by}
 use Rattle.model.specs.Limits.{TableLimits}
 use Rattle.codeword.specs.Checks.{checks_written, page_written}
 use Rattle.codeword.specs.Rest.{one-branch}
-use Rattle.theory.specs.Answers.{page_taken, and_true, eqb-true}
+use Rattle.theory.specs.Answers.{Opens, page_taken, open_taken, and_true, eqb-true}
 use Rattle.theory.specs.Codes.{Usable}
 use Rattle.theory.specs.Steps.{SymbolsBelow}
-use Rattle.wide_answers.specs.Fits.{encode_number, syndrome_number}
+use Rattle.wide_answers.specs.Fits.{encode_number, syndrome_number, open_number}
 use Rattle.wide_rows.specs.Halves.{numbers_put}
 use Rattle.wide_symbols.specs.Numbers.{IsNumbers, numbers_length, numbers_drop, numbers_append}
 
@@ -79,3 +80,14 @@ module _ {S : Type 0} {number : S → ℕ} {numbers : List S → List ℕ} (n : 
 
     pub syndrome_taken : fits ≡ (eqb (length x) (m + c.k) && eqb (length y) c.k) → r ≡ 0 → SyndromeWorks c (numbers x) (length x) (length y)
     syndrome_taken i z = rw (numbers_length n x, numbers_length n y) at (syndrome_works c (numbers x) (length (numbers y)) (sym (syndrome_tested i) ∙ z))
+
+  -- the same of open, which is lent the result r, S and D
+  module _ (c : Code) (page r s d : List S) (t : ℕ) (fits : Bool) (h : t ≡ first_that_applies (page_tests c fits (numbers page))) (m : ℕ) (e : m ≡ data_count c)
+      (i : fits ≡ (eqb (length page) (m + c.k) && (eqb (length r) m && (eqb (length s) c.k && eqb (length d) m)))) where
+    pub open_tested : t ≡ open_answer c (numbers page) (state_by (numbers r) (numbers s) (numbers d))
+    open_tested =
+        open_number c (numbers page) t fits h m e (length page) (length r) (state_by (numbers r) (numbers s) (numbers d)) (length s) (length d) i
+        (sym (numbers_length n page)) (sym (numbers_length n r)) (sym (numbers_length n s)) (sym (numbers_length n d))
+
+    pub opens : t ≡ 0 → Opens c (numbers page) (state_by (numbers r) (numbers s) (numbers d))
+    opens z = (open_taken c (numbers page) (state_by (numbers r) (numbers s) (numbers d)) (sym open_tested ∙ z)).1
