@@ -13,14 +13,14 @@ use params::Params;
 pub fn table_answer(code: Params, positions: &[u16]) -> u32
     ensures { result ≡ table_answer (code_by32 code positions.now) }
 {
-    table::shape_answer(code, positions)
+    refusals::answer(table::shape_answer(code, positions))
 }
 
 // Tests 2 to 6 and 10, of a call whose lent buffers fit or not, whatever symbols it reads.
 pub fn page_answer(code: Params, positions: &[u16], fits: bool) -> u32
     ensures { (input : List ℕ) → Below 4294967296 input → result ≡ first_that_applies (page_tests (code_by32 code positions.now) fits input) }
 {
-    let number = table::shape_answer(code, positions);
+    let number = refusals::answer(table::shape_answer(code, positions));
     if number != 0 {
         return number;
     }
@@ -38,7 +38,7 @@ pub fn decode_answer(code: Params, positions: &[u16], fits: bool, thresholds: &[
     if number != 0 {
         return number;
     }
-    answers::threshold_answer(thresholds)
+    refusals::answer(answers::threshold_answer(thresholds))
 }
 
 // Those of a pass: 9 of its threshold.
