@@ -1,16 +1,18 @@
 // The calls encode and syndrome: the tests, then the writing of a page or of a syndrome.
 #![tactic(auto)]
 
-ghost use Rattle.std.specs.Prelude.{◌≡◌};
+ghost use Rattle.std.specs.Prelude.{◌≡◌, OnOk};
 ghost use Rattle.model.specs.Code.{code_in, code_of};
 ghost use Rattle.model.specs.Calls.{encode_outcome, syndrome_outcome};
 ghost use Rattle.model.specs.Demand.{Encodes};
 ghost use Rattle.params.specs.Codes.{profile_of};
+ghost use Rattle.refusals.specs.Numbers.{answer};
 
 use params::Params;
+use refusals::Refusal;
 
 // Writes the page of the data, in the profile of bit pages or of bytes.
-#[tactic(auto, unfolding(model::specs::Calls::encode_outcome, model::specs::Calls::encode_answer, model::specs::Calls::outcome))]
+#[tactic(auto, using(refusals::specs::Numbers::not_zero), unfolding(model::specs::Calls::encode_outcome, model::specs::Calls::encode_answer, model::specs::Calls::outcome))]
 pub fn encode_in(
     bits: bool,
     q: u32,
@@ -19,10 +21,10 @@ pub fn encode_in(
     positions: &[u16],
     data: &[u8],
     page: &mut [u8],
-) -> u32
-    ensures outcome { record { number = result; left = page.new }
+) -> Result<(), Refusal>
+    ensures outcome { record { number = answer result; left = page.new }
         ≡ encode_outcome (code_in (profile_of bits) q k b positions.now) «data».now page.old }
-    ensures word { result ≡ 0 → Encodes (code_in (profile_of bits) q k b positions.now) «data».now page.new }
+    ensures word { OnOk result (Encodes (code_in (profile_of bits) q k b positions.now) «data».now page.new) }
 {
     let code = Params {
         q,
@@ -32,23 +34,27 @@ pub fn encode_in(
     };
     let n = params::data_count(code);
     let fits = lengths::two_fit(data.len(), n, page.len(), n + code.k);
-    let number = answers::page_answer(code, positions, fits, data);
-    if number != 0 {
-        return number;
-    }
+    answers::page_answer(code, positions, fits, data)?;
     let end = data.len();
     slices::copy_into(&mut page[..end], data);
     let checks = &mut page[end..];
     codeword::first_row(code, positions, data, checks);
     codeword::add_branches(code, positions, data, checks);
-    0
+    Ok(())
 }
 
 // Writes the page of the data.
-pub fn encode(q: u32, k: u32, b: u32, positions: &[u16], data: &[u8], page: &mut [u8]) -> u32
-    ensures outcome { record { number = result; left = page.new }
+pub fn encode(
+    q: u32,
+    k: u32,
+    b: u32,
+    positions: &[u16],
+    data: &[u8],
+    page: &mut [u8],
+) -> Result<(), Refusal>
+    ensures outcome { record { number = answer result; left = page.new }
         ≡ encode_outcome (code_of q k b positions.now) «data».now page.old }
-    ensures word { result ≡ 0 → Encodes (code_of q k b positions.now) «data».now page.new }
+    ensures word { OnOk result (Encodes (code_of q k b positions.now) «data».now page.new) }
 {
     encode_in(false, q, k, b, positions, data, page)
 }
@@ -62,8 +68,8 @@ pub fn syndrome_in(
     positions: &[u16],
     page: &[u8],
     s: &mut [u8],
-) -> u32
-    ensures { record { number = result; left = s.new }
+) -> Result<(), Refusal>
+    ensures { record { number = answer result; left = s.new }
         ≡ syndrome_outcome (code_in (profile_of bits) q k b positions.now) page.now s.old }
 {
     let code = Params {
@@ -74,17 +80,21 @@ pub fn syndrome_in(
     };
     let n = params::data_count(code);
     let fits = lengths::two_fit(page.len(), n + code.k, s.len(), code.k);
-    let number = answers::page_answer(code, positions, fits, page);
-    if number != 0 {
-        return number;
-    }
+    answers::page_answer(code, positions, fits, page)?;
     codeword::write_syndrome(code, positions, page, s);
-    0
+    Ok(())
 }
 
 // Writes the syndrome of a page.
-pub fn syndrome(q: u32, k: u32, b: u32, positions: &[u16], page: &[u8], s: &mut [u8]) -> u32
-    ensures { record { number = result; left = s.new }
+pub fn syndrome(
+    q: u32,
+    k: u32,
+    b: u32,
+    positions: &[u16],
+    page: &[u8],
+    s: &mut [u8],
+) -> Result<(), Refusal>
+    ensures { record { number = answer result; left = s.new }
         ≡ syndrome_outcome (code_of q k b positions.now) page.now s.old }
 {
     syndrome_in(false, q, k, b, positions, page, s)

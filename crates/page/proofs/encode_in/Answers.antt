@@ -1,5 +1,5 @@
 -- `encode_in`: done, the page is the code word of the data. That the call is not refused is looked for among the facts of each goal.
-use Rattle.std.proofs.Common.{◌≡◌, Bool, ◌&&◌, List, ◌++◌, ℕ, ◌+◌, ◌*◌, eqb, length, drop, sym, ◌∙◌, ap, arith, rules}
+use Rattle.std.proofs.Common.{◌≡◌, Bool, ◌&&◌, List, ◌++◌, ℕ, ◌+◌, ◌*◌, eqb, length, drop, sym, ◌∙◌, ap, arith}
 use Rattle.std.proofs.Math.Seq.{length-take-le}
 use Rattle.model.specs.Calls.{first_that_applies, page_tests, encode_answer, encode_outcome}
 use Rattle.model.specs.Code.{Code, code_in, code_word}
@@ -35,38 +35,38 @@ works bits q k b positions u page n fits number m f e z =
 pub slice_bounds-copy_into-end : goal.slice_bounds-copy_into-end
 slice_bounds-copy_into-end c =
     let a = c.args in
-    let w : Works a.bits a.q a.k a.b a.positions.now a.«data».now a.page.now = search (rules, works) in
+    let w : Works a.bits a.q a.k a.b a.positions.now a.«data».now a.page.now = works _ _ _ _ _ _ _ _ _ _ c.data_count-n.ensures c.two_fit-fits.ensures c.page_answer.ensures (omega arith) in
     omega (arith, w.symbols.len, w.len)
 
 pub slice_bounds-copy_into-end-2 : goal.slice_bounds-copy_into-end-2
 slice_bounds-copy_into-end-2 c =
     let a = c.args in
-    let w : Works a.bits a.q a.k a.b a.positions.now a.«data».now a.page.now = search (rules, works) in
+    let w : Works a.bits a.q a.k a.b a.positions.now a.«data».now a.page.now = works _ _ _ _ _ _ _ _ _ _ c.data_count-n.ensures c.two_fit-fits.ensures c.page_answer.ensures (omega arith) in
     sym (length-take-le _ _ (omega (arith, w.symbols.len, w.len)))
 
 pub copy_into-requires : goal.copy_into-requires
 copy_into-requires c =
     let a = c.args in
-    let w : Works a.bits a.q a.k a.b a.positions.now a.«data».now a.page.now = search (rules, works) in
+    let w : Works a.bits a.q a.k a.b a.positions.now a.«data».now a.page.now = works _ _ _ _ _ _ _ _ _ _ c.data_count-n.ensures c.two_fit-fits.ensures c.page_answer.ensures (omega arith) in
     length-take-le _ _ (omega (arith, w.symbols.len, w.len))
 
 pub first_row-requires : goal.first_row-requires
 first_row-requires c =
     let a = c.args in
-    let w : Works a.bits a.q a.k a.b a.positions.now a.«data».now a.page.now = search (rules, works) in
+    let w : Works a.bits a.q a.k a.b a.positions.now a.«data».now a.page.now = works _ _ _ _ _ _ _ _ _ _ c.data_count-n.ensures c.two_fit-fits.ensures c.page_answer.ensures (omega arith) in
     (w.code, w.symbols, behind_length (c.copy_into.new.dst ++ drop (length a.«data».now) a.page.now) (length a.«data».now) a.k (omega (arith, w.symbols.len, w.len)))
 
 pub add_branches-requires : goal.add_branches-requires
 add_branches-requires c =
     let a = c.args in
-    let w : Works a.bits a.q a.k a.b a.positions.now a.«data».now a.page.now = search (rules, works) in
+    let w : Works a.bits a.q a.k a.b a.positions.now a.«data».now a.page.now = works _ _ _ _ _ _ _ _ _ _ c.data_count-n.ensures c.two_fit-fits.ensures c.page_answer.ensures (omega arith) in
     (w.code, w.symbols, c.first_row.ensures.below)
 
 pub returns-clause-outcome : goal.returns-clause-outcome
 unfolding encode_outcome
 returns-clause-outcome c =
     let a = c.args in
-    let w : Works a.bits a.q a.k a.b a.positions.now a.«data».now a.page.now = search (rules, works) in
+    let w : Works a.bits a.q a.k a.b a.positions.now a.«data».now a.page.now = works _ _ _ _ _ _ _ _ _ _ c.data_count-n.ensures c.two_fit-fits.ensures c.page_answer.ensures (omega arith) in
     left_as_done _ _ _ _ w.answer
     (page_written (code_in (profile_of a.bits) a.q a.k a.b a.positions.now) w.code.table a.«data».now c.copy_into.new.dst (drop (length a.«data».now) a.page.now) _ _ w.symbols.len c.copy_into.ensures
     c.first_row.ensures.written c.add_branches.ensures)
@@ -75,8 +75,7 @@ pub returns-clause-word : goal.returns-clause-word
 unfolding code_word
 returns-clause-word c =
     let a = c.args in
-    let w : Works a.bits a.q a.k a.b a.positions.now a.«data».now a.page.now = search (rules, works) in
-    λ e. (
+    let w : Works a.bits a.q a.k a.b a.positions.now a.«data».now a.page.now = works _ _ _ _ _ _ _ _ _ _ c.data_count-n.ensures c.two_fit-fits.ensures c.page_answer.ensures (omega arith) in (
       sym (w.answer ∙ ap (λ (l : ℕ). encode_answer (code_in (profile_of a.bits) a.q a.k a.b a.positions.now) a.«data».now l) w.len),
       page_written (code_in (profile_of a.bits) a.q a.k a.b a.positions.now) w.code.table a.«data».now c.copy_into.new.dst (drop (length a.«data».now) a.page.now) _ _ w.symbols.len c.copy_into.ensures
           c.first_row.ensures.written c.add_branches.ensures,
