@@ -6,10 +6,13 @@ ghost use Rattle.model.specs.Code.{code_in, code_of};
 ghost use Rattle.model.specs.Decoder.{state_by};
 ghost use Rattle.model.specs.Calls.{open_outcome};
 ghost use Rattle.params.specs.Codes.{profile_of};
+ghost use Rattle.refusals.specs.Numbers.{answer};
 
 use params::Params;
+use refusals::Refusal;
 
 // Opens a received page: fills the result, S and D, in the profile of bit pages or of bytes.
+#[tactic(auto, using(refusals::specs::Numbers::not_zero), unfolding(model::specs::Calls::open_outcome, model::specs::Calls::open_answer, model::specs::Calls::outcome))]
 pub fn open_in(
     bits: bool,
     q: u32,
@@ -20,8 +23,8 @@ pub fn open_in(
     res: &mut [u8],
     syndrome: &mut [u8],
     difference: &mut [u8],
-) -> u32
-    ensures { record { number = result; left = state_by res.new syndrome.new difference.new }
+) -> Result<(), Refusal>
+    ensures { record { number = answer result; left = state_by res.new syndrome.new difference.new }
         ≡ open_outcome (code_in (profile_of bits) q k b positions.now) page.now
         (state_by res.old syndrome.old difference.old) }
 {
@@ -41,12 +44,9 @@ pub fn open_in(
         syndrome.len(),
         difference.len(),
     );
-    let number = answers::page_answer(code, positions, fits, page);
-    if number != 0 {
-        return number;
-    }
+    answers::page_answer(code, positions, fits, page)?;
     opening::open_page(code, positions, page, res, syndrome, difference);
-    0
+    Ok(())
 }
 
 // Opens a received page: fills the result, S and D.
@@ -59,8 +59,8 @@ pub fn open(
     res: &mut [u8],
     syndrome: &mut [u8],
     difference: &mut [u8],
-) -> u32
-    ensures { record { number = result; left = state_by res.new syndrome.new difference.new }
+) -> Result<(), Refusal>
+    ensures { record { number = answer result; left = state_by res.new syndrome.new difference.new }
         ≡ open_outcome (code_of q k b positions.now) page.now (state_by res.old syndrome.old difference.old) }
 {
     open_in(false, q, k, b, positions, page, res, syndrome, difference)
