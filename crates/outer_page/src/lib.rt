@@ -1,7 +1,7 @@
 // The call encode in blocks: the tests, then the page of the data, and in it the outer check of each block.
 #![tactic(auto)]
 
-ghost use Rattle.std.specs.Prelude.{◌≡◌, ◌<◌, ◌≤◌, get_or, set};
+ghost use Rattle.std.specs.Prelude.{◌≡◌, ◌<◌, ◌≤◌, get_or, set, OnOk};
 ghost use Rattle.model.specs.Code.{code_of, data_count, code_word, data_of};
 ghost use Rattle.model.specs.Outer.{outer_word};
 ghost use Rattle.model.specs.Calls.{encode_outer_outcome};
@@ -11,9 +11,11 @@ ghost use Rattle.theory.specs.Answers.{BlockFits};
 ghost use Rattle.theory.specs.Codes.{Usable};
 ghost use Rattle.theory.specs.Steps.{SymbolsBelow};
 ghost use Rattle.params.specs.Codes.{code_by};
+ghost use Rattle.refusals.specs.Numbers.{answer};
 ghost use Rattle.outer_page.specs.Words.{IsWord};
 
 use params::Params;
+use refusals::Refusal;
 
 // h subtracted from a data symbol of a page and from its checks, which leaves a code word.
 fn subtract_symbol(code: Params, positions: &[u16], symbol: usize, h: u8, page: &mut [u8])
@@ -56,7 +58,7 @@ fn write_outer_checks(code: Params, positions: &[u16], block: usize, data: &[u8]
 }
 
 // Writes the page of the data in blocks, each with an outer check.
-#[tactic(auto, unfolding(model::specs::Calls::encode_outer_outcome, model::specs::Calls::encode_outer_answer, model::specs::Calls::outcome))]
+#[tactic(auto, using(refusals::specs::Numbers::not_zero), unfolding(model::specs::Calls::encode_outer_outcome, model::specs::Calls::encode_outer_answer, model::specs::Calls::outcome))]
 pub fn encode_outer(
     q: u32,
     k: u32,
@@ -65,10 +67,10 @@ pub fn encode_outer(
     block: u32,
     data: &[u8],
     page: &mut [u8],
-) -> u32
-    ensures outcome { record { number = result; left = page.new }
+) -> Result<(), Refusal>
+    ensures outcome { record { number = answer result; left = page.new }
         ≡ encode_outer_outcome (code_of q k b positions.now) block «data».now page.old }
-    ensures word { result ≡ 0 → EncodesOuter (code_of q k b positions.now) block «data».now page.new }
+    ensures word { OnOk result (EncodesOuter (code_of q k b positions.now) block «data».now page.new) }
 {
     let code = Params {
         q,
@@ -78,15 +80,12 @@ pub fn encode_outer(
     };
     let n = params::data_count(code);
     let fits = lengths::two_fit(data.len(), n, page.len(), n + code.k);
-    let number = answers::encode_outer_answer(code, positions, block as usize, fits, data);
-    if number != 0 {
-        return number;
-    }
+    answers::encode_outer_answer(code, positions, block as usize, fits, data)?;
     let end = data.len();
     slices::copy_into(&mut page[..end], data);
     let checks = &mut page[end..];
     codeword::first_row(code, positions, data, checks);
     codeword::add_branches(code, positions, data, checks);
     write_outer_checks(code, positions, block as usize, data, page);
-    0
+    Ok(())
 }

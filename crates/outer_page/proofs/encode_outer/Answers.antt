@@ -1,6 +1,6 @@
 -- `encode_outer`: done, the page is the code word of the data with each block's last place replaced. That the call is not refused is looked for
 -- among the facts of each goal.
-use Rattle.std.proofs.Common.{◌≡◌, Bool, ◌&&◌, List, ◌++◌, ℕ, ◌+◌, ◌*◌, eqb, length, drop, sym, subst, ◌∙◌, ap, arith, rules}
+use Rattle.std.proofs.Common.{◌≡◌, Bool, ◌&&◌, List, ◌++◌, ℕ, ◌+◌, ◌*◌, eqb, length, drop, sym, subst, ◌∙◌, ap, arith}
 use Rattle.std.proofs.Math.Seq.{length-take-le}
 use Rattle.model.specs.Calls.{first_that_applies, page_tests, block_test, encode_fits, encode_answer, encode_outer_answer}
 use Rattle.model.specs.Code.{Code, code_of, data_count, page_length}
@@ -44,37 +44,37 @@ works q k b block positions u page n fits number m f e z =
 pub slice_bounds-copy_into-end : goal.slice_bounds-copy_into-end
 slice_bounds-copy_into-end c =
     let a = c.args in
-    let w : Works a.q a.k a.b a.block a.positions.now a.«data».now a.page.now = search (rules, works) in
+    let w : Works a.q a.k a.b a.block a.positions.now a.«data».now a.page.now = works _ _ _ _ _ _ _ _ _ _ c.data_count-n.ensures c.two_fit-fits.ensures c.encode_outer_answer.ensures (omega arith) in
     omega (arith, w.symbols.len, w.len)
 
 pub slice_bounds-copy_into-end-2 : goal.slice_bounds-copy_into-end-2
 slice_bounds-copy_into-end-2 c =
     let a = c.args in
-    let w : Works a.q a.k a.b a.block a.positions.now a.«data».now a.page.now = search (rules, works) in
+    let w : Works a.q a.k a.b a.block a.positions.now a.«data».now a.page.now = works _ _ _ _ _ _ _ _ _ _ c.data_count-n.ensures c.two_fit-fits.ensures c.encode_outer_answer.ensures (omega arith) in
     sym (length-take-le _ _ (omega (arith, w.symbols.len, w.len)))
 
 pub copy_into-requires : goal.copy_into-requires
 copy_into-requires c =
     let a = c.args in
-    let w : Works a.q a.k a.b a.block a.positions.now a.«data».now a.page.now = search (rules, works) in
+    let w : Works a.q a.k a.b a.block a.positions.now a.«data».now a.page.now = works _ _ _ _ _ _ _ _ _ _ c.data_count-n.ensures c.two_fit-fits.ensures c.encode_outer_answer.ensures (omega arith) in
     length-take-le _ _ (omega (arith, w.symbols.len, w.len))
 
 pub first_row-requires : goal.first_row-requires
 first_row-requires c =
     let a = c.args in
-    let w : Works a.q a.k a.b a.block a.positions.now a.«data».now a.page.now = search (rules, works) in
+    let w : Works a.q a.k a.b a.block a.positions.now a.«data».now a.page.now = works _ _ _ _ _ _ _ _ _ _ c.data_count-n.ensures c.two_fit-fits.ensures c.encode_outer_answer.ensures (omega arith) in
     (w.code, w.symbols, behind_length (c.copy_into.new.dst ++ drop (length a.«data».now) a.page.now) (length a.«data».now) a.k (omega (arith, w.symbols.len, w.len)))
 
 pub add_branches-requires : goal.add_branches-requires
 add_branches-requires c =
     let a = c.args in
-    let w : Works a.q a.k a.b a.block a.positions.now a.«data».now a.page.now = search (rules, works) in
+    let w : Works a.q a.k a.b a.block a.positions.now a.«data».now a.page.now = works _ _ _ _ _ _ _ _ _ _ c.data_count-n.ensures c.two_fit-fits.ensures c.encode_outer_answer.ensures (omega arith) in
     (w.code, w.symbols, c.first_row.ensures.below)
 
 pub write_outer_checks-requires : goal.write_outer_checks-requires
 write_outer_checks-requires c =
     let a = c.args in
-    let w : Works a.q a.k a.b a.block a.positions.now a.«data».now a.page.now = search (rules, works) in (
+    let w : Works a.q a.k a.b a.block a.positions.now a.«data».now a.page.now = works _ _ _ _ _ _ _ _ _ _ c.data_count-n.ensures c.two_fit-fits.ensures c.encode_outer_answer.ensures (omega arith) in (
       w.usable,
       w.code.q_high,
       w.block_fits,
@@ -86,6 +86,6 @@ write_outer_checks-requires c =
 pub returns-clause-word : goal.returns-clause-word
 returns-clause-word c =
     let a = c.args in
-    let w : Works a.q a.k a.b a.block a.positions.now a.«data».now a.page.now = search (rules, works) in
-    λ e. subst (EncodesOuter (code_of a.q a.k a.b a.positions.now) a.block a.«data».now) (sym c.write_outer_checks.ensures)
+    let w : Works a.q a.k a.b a.block a.positions.now a.«data».now a.page.now = works _ _ _ _ _ _ _ _ _ _ c.data_count-n.ensures c.two_fit-fits.ensures c.encode_outer_answer.ensures (omega arith) in
+    subst (EncodesOuter (code_of a.q a.k a.b a.positions.now) a.block a.«data».now) (sym c.write_outer_checks.ensures)
     (outer_encodes (code_of a.q a.k a.b a.positions.now) a.block a.«data».now (length a.page.now) w.answer)
