@@ -1,18 +1,21 @@
 // The call pass: one pass with one threshold on the result, S and D, for every form of the call, and the Rattle form.
 #![tactic(auto)]
 
-ghost use Rattle.std.specs.Prelude.{◌≡◌, true, ◌*◌, ◌≤◌, length};
+ghost use Rattle.std.specs.Prelude.{◌≡◌, true, ◌*◌, ◌≤◌, length, OnOk};
+ghost use Rattle.std.specs.Result.{result_unwrap_or};
 ghost use Rattle.model.specs.Code.{code_in, code_of};
 ghost use Rattle.model.specs.Decoder.{state_by};
 ghost use Rattle.model.specs.Calls.{pass_outcome};
 ghost use Rattle.model.specs.Demand.{PassFalls};
 ghost use Rattle.theory.specs.Counters.{Clear};
 ghost use Rattle.params.specs.Codes.{profile_of, code_by};
+ghost use Rattle.refusals.specs.Numbers.{answer};
 
 use params::Params;
+use refusals::Refusal;
 use tally::Tally;
 
-// What a pass hands back beside the buffers: its number, and its changes, none where it is refused.
+// What a pass on wide symbols hands back beside the buffers: its number, and its changes, none where it is refused.
 #[derive(Clone, Copy)]
 pub struct Passed {
     pub number: u32,
@@ -21,6 +24,7 @@ pub struct Passed {
 
 // One pass, for every form of the call: `others` says whether the buffers that only one form lends fit. zeros, which the form keeps on its
 // stack, has one byte a data symbol; `bits`, the code's, is handed down by itself.
+#[tactic(auto, using(refusals::specs::Numbers::not_zero), unfolding(model::specs::Calls::pass_outcome, model::specs::Calls::outcome))]
 pub fn pass_with(
     others: bool,
     bits: bool,
@@ -31,17 +35,17 @@ pub fn pass_with(
     res: &mut [u8],
     syndrome: &mut [u8],
     difference: &mut [u8],
-) -> Passed
+) -> Result<u32, Refusal>
     requires { (code.k ≤ 4294967295) × (code.b ≤ 4294967295) × (code.b * code.k ≤ 4096 → code.b * code.k ≤ length zeros.old)
         × Clear zeros.old
         × (bits ≡ code.bits) }
     ensures outcome { record {
-      number = result.number;
-      left = record { state = state_by res.new syndrome.new difference.new; changes = result.changes };
+      number = answer result;
+      left = record { state = state_by res.new syndrome.new difference.new; changes = result_unwrap_or result 0 };
     } ≡ pass_outcome (code_by code positions.now) others threshold
         (state_by res.old syndrome.old difference.old) }
-    ensures falling { result.number ≡ 0 → PassFalls (code_by code positions.now) threshold
-        (state_by res.old syndrome.old difference.old) }
+    ensures falling { OnOk result (PassFalls (code_by code positions.now) threshold
+        (state_by res.old syndrome.old difference.old)) }
 {
     let n = params::data_count(code);
     let fits = lengths::state_fits(
@@ -52,29 +56,21 @@ pub fn pass_with(
         syndrome.len(),
         difference.len(),
     );
-    let number = answers::pass_answer(code, positions, fits, threshold, res, syndrome, difference);
-    if number != 0 {
-        return Passed { number, changes: 0 };
-    }
-    let thresholds = [threshold as u8];
-    let opened = Tally::opened(0);
+    answers::pass_answer(code, positions, fits, threshold, res, syndrome, difference)?;
     let mut none = [0u8; 0];
     let tally = passes::run(
         bits,
         code,
         positions,
-        &thresholds,
+        &[threshold as u8],
         res,
         syndrome,
         difference,
         &mut zeros[..n],
         &mut none,
-        opened,
+        Tally::opened(0),
     );
-    Passed {
-        number: 0,
-        changes: tally.changes,
-    }
+    Ok(tally.changes)
 }
 
 // One pass with one threshold on the result, S and D, in the profile of bit pages or of bytes. A small code clears a small buffer for the zeros.
@@ -88,14 +84,14 @@ pub fn pass_in(
     res: &mut [u8],
     syndrome: &mut [u8],
     difference: &mut [u8],
-) -> Passed
+) -> Result<u32, Refusal>
     ensures outcome { record {
-      number = result.number;
-      left = record { state = state_by res.new syndrome.new difference.new; changes = result.changes };
+      number = answer result;
+      left = record { state = state_by res.new syndrome.new difference.new; changes = result_unwrap_or result 0 };
     } ≡ pass_outcome (code_in (profile_of bits) q k b positions.now) true threshold
         (state_by res.old syndrome.old difference.old) }
-    ensures falling { result.number ≡ 0 → PassFalls (code_in (profile_of bits) q k b positions.now) threshold
-        (state_by res.old syndrome.old difference.old) }
+    ensures falling { OnOk result (PassFalls (code_in (profile_of bits) q k b positions.now) threshold
+        (state_by res.old syndrome.old difference.old)) }
 {
     let code = Params {
         q,
@@ -125,14 +121,14 @@ pub fn pass(
     res: &mut [u8],
     syndrome: &mut [u8],
     difference: &mut [u8],
-) -> Passed
+) -> Result<u32, Refusal>
     ensures outcome { record {
-      number = result.number;
-      left = record { state = state_by res.new syndrome.new difference.new; changes = result.changes };
+      number = answer result;
+      left = record { state = state_by res.new syndrome.new difference.new; changes = result_unwrap_or result 0 };
     } ≡ pass_outcome (code_of q k b positions.now) true threshold
         (state_by res.old syndrome.old difference.old) }
-    ensures falling { result.number ≡ 0 → PassFalls (code_of q k b positions.now) threshold
-        (state_by res.old syndrome.old difference.old) }
+    ensures falling { OnOk result (PassFalls (code_of q k b positions.now) threshold
+        (state_by res.old syndrome.old difference.old)) }
 {
     pass_in(
         false, q, k, b, positions, threshold, res, syndrome, difference,
