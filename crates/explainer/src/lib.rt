@@ -6,10 +6,15 @@ ghost use Rattle.model.specs.Code.{code_of};
 ghost use Rattle.model.specs.Decoder.{state_by};
 ghost use Rattle.model.specs.Calls.{explain_outcome};
 ghost use Rattle.params.specs.Codes.{code_by};
+ghost use Rattle.refusals.specs.Numbers.{answer};
+ghost use Rattle.explainer.specs.Explained.{explained_of};
 
+pub use grounds::Told;
 use params::Params;
+use refusals::Refusal;
 
-// What explain hands back: its number, the ground, h0, m0, m1, and the bits of the estimates that equal h0; refused, zeros beside the number.
+// What explain on wide symbols hands back: its number, the ground, h0, m0, m1, and the bits of the estimates that equal h0; refused, zeros beside
+// the number.
 #[derive(Clone, Copy)]
 pub struct Explained {
     pub number: u32,
@@ -21,6 +26,7 @@ pub struct Explained {
 }
 
 // Explains a data symbol, for every form of the call: `others` says whether the buffers that only one form lends fit.
+#[tactic(auto, using(refusals::specs::Numbers::not_zero), unfolding(model::specs::Calls::explain_outcome, model::specs::Calls::outcome))]
 pub fn explain_with(
     others: bool,
     code: Params,
@@ -30,12 +36,9 @@ pub fn explain_with(
     res: &[u8],
     syndrome: &[u8],
     difference: &[u8],
-) -> Explained
+) -> Result<Told, Refusal>
     requires { (code.k ≤ 4294967295) × (code.b ≤ 4294967295) }
-    ensures { record {
-      number = result.number;
-      left = record { ground_number = result.ground; leader = result.leader; lead = result.lead; next = result.next; bits = result.bits };
-    } ≡ explain_outcome (code_by code positions.now) others threshold symbol
+    ensures { record { number = answer result; left = explained_of result } ≡ explain_outcome (code_by code positions.now) others threshold symbol
         (state_by res.now syndrome.now difference.now) }
 {
     let n = params::data_count(code);
@@ -47,19 +50,9 @@ pub fn explain_with(
         syndrome.len(),
         difference.len(),
     );
-    let number = answers::explain_answer(
+    answers::explain_answer(
         code, positions, fits, threshold, symbol, res, syndrome, difference,
-    );
-    if number != 0 {
-        return Explained {
-            number,
-            ground: 0,
-            leader: 0,
-            lead: 0,
-            next: 0,
-            bits: 0,
-        };
-    }
+    )?;
     let told = grounds::tell_symbol(
         code,
         positions,
@@ -68,14 +61,7 @@ pub fn explain_with(
         syndrome,
         difference,
     );
-    Explained {
-        number: 0,
-        ground: told.ground_number,
-        leader: told.leader,
-        lead: told.lead,
-        next: told.next,
-        bits: told.bits,
-    }
+    Ok(told)
 }
 
 // Explains a data symbol at a threshold, from the result, S and D, which are only read.
@@ -89,11 +75,8 @@ pub fn explain(
     res: &[u8],
     syndrome: &[u8],
     difference: &[u8],
-) -> Explained
-    ensures { record {
-      number = result.number;
-      left = record { ground_number = result.ground; leader = result.leader; lead = result.lead; next = result.next; bits = result.bits };
-    } ≡ explain_outcome (code_of q k b positions.now) true threshold symbol
+) -> Result<Told, Refusal>
+    ensures { record { number = answer result; left = explained_of result } ≡ explain_outcome (code_of q k b positions.now) true threshold symbol
         (state_by res.now syndrome.now difference.now) }
 {
     let code = Params {

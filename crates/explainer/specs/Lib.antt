@@ -1,0 +1,2 @@
+-- What the contracts of explain name.
+pub mod Explained
