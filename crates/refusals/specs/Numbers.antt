@@ -1,5 +1,5 @@
 -- The number of each refusal, as documents 01 and 02 have them, and the number that a call answers.
-use Rattle.std.specs.Prelude.{◌≡◌, ◌≢◌, ℕ, Result, Ok, Err}
+use Rattle.std.specs.Prelude.{◌≡◌, ◌≢◌, ℕ, Result, Ok, Err, OnOk, refl}
 use Rattle.std.proofs.Common.{sym, ◌∙◌}
 use Rattle.refusals.specs.declared.Refusal.{Refusal}
 use Rattle.refusals.specs.declared.Refusal.TheVariants.{Q, K, Branches, J, Position, NotSelfOrthogonal, Length, Symbol, ThresholdCount, Threshold, SymbolNumber, Block, Contents, Entry, Body}
@@ -47,3 +47,12 @@ not_zero Body = λ e. cc
 -- a refusal that is handed on: its number is m, where m is n for every n that is not 0
 pub handed_on : (r : Refusal) (n m : ℕ) → number r ≡ n → (n ≢ 0 → m ≡ n) → number r ≡ m
 handed_on r n m e same = e ∙ sym (same (λ z. not_zero r (e ∙ z)))
+
+-- what is said on Ok is what is said where the number is 0
+pub on_zero : {A P : Type 0} (r : Result A Refusal) → OnOk r P → answer r ≡ 0 → P
+on_zero (Ok _) p e = p
+on_zero (Err refusal) p e = absurd (not_zero refusal e)
+
+pub zero_on : {A P : Type 0} (r : Result A Refusal) → (answer r ≡ 0 → P) → OnOk r P
+zero_on (Ok _) p = p refl
+zero_on (Err _) p = tt
