@@ -2,19 +2,21 @@
 // profile of bit pages or of bytes, as `bits` says.
 #![tactic(auto)]
 
-ghost use Rattle.std.specs.Prelude.{◌≡◌};
+ghost use Rattle.std.specs.Prelude.{◌≡◌, OnOk};
 ghost use Rattle.model.specs.Code.{code_in};
 ghost use Rattle.model.specs.Decoder.{state_by};
 ghost use Rattle.model.specs.Calls.{table_answer, encode_outcome, syndrome_outcome, open_outcome};
 ghost use Rattle.model.specs.Bytes.{positions_of};
 ghost use Rattle.model.specs.Demand.{Encodes};
 ghost use Rattle.params.specs.Codes.{profile_of};
+ghost use Rattle.refusals.specs.Numbers.{answer};
 
 use params::Params;
+use refusals::Refusal;
 
 // Checks a code table. A small table is read into a small buffer, which costs less to clear.
-pub fn check_table(bits: bool, q: u32, k: u32, b: u32, table: &[u8]) -> u32
-    ensures { result ≡ table_answer (code_in (profile_of bits) q k b (positions_of table.now)) }
+pub fn check_table(bits: bool, q: u32, k: u32, b: u32, table: &[u8]) -> Result<(), Refusal>
+    ensures { answer result ≡ table_answer (code_in (profile_of bits) q k b (positions_of table.now)) }
 {
     let code = Params {
         q,
@@ -33,10 +35,18 @@ pub fn check_table(bits: bool, q: u32, k: u32, b: u32, table: &[u8]) -> u32
 }
 
 // Encodes data into a page. A small table is read into a small buffer, which costs less to clear.
-pub fn encode(bits: bool, q: u32, k: u32, b: u32, table: &[u8], data: &[u8], page: &mut [u8]) -> u32
-    ensures outcome { record { number = result; left = page.new }
+pub fn encode(
+    bits: bool,
+    q: u32,
+    k: u32,
+    b: u32,
+    table: &[u8],
+    data: &[u8],
+    page: &mut [u8],
+) -> Result<(), Refusal>
+    ensures outcome { record { number = answer result; left = page.new }
         ≡ encode_outcome (code_in (profile_of bits) q k b (positions_of table.now)) «data».now page.old }
-    ensures word { result ≡ 0 → Encodes (code_in (profile_of bits) q k b (positions_of table.now)) «data».now page.new }
+    ensures word { OnOk result (Encodes (code_in (profile_of bits) q k b (positions_of table.now)) «data».now page.new) }
 {
     if table.len() <= 64 {
         let mut few = [0u16; 32];
@@ -57,8 +67,8 @@ pub fn syndrome(
     table: &[u8],
     page: &[u8],
     syndrome: &mut [u8],
-) -> u32
-    ensures { record { number = result; left = syndrome.new }
+) -> Result<(), Refusal>
+    ensures { record { number = answer result; left = syndrome.new }
         ≡ syndrome_outcome (code_in (profile_of bits) q k b (positions_of table.now)) page.now syndrome.old }
 {
     if table.len() <= 64 {
@@ -82,8 +92,8 @@ pub fn open(
     res: &mut [u8],
     syndrome: &mut [u8],
     difference: &mut [u8],
-) -> u32
-    ensures { record { number = result; left = state_by res.new syndrome.new difference.new }
+) -> Result<(), Refusal>
+    ensures { record { number = answer result; left = state_by res.new syndrome.new difference.new }
         ≡ open_outcome (code_in (profile_of bits) q k b (positions_of table.now)) page.now
         (state_by res.old syndrome.old difference.old) }
 {

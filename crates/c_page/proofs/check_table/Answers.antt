@@ -1,0 +1,16 @@
+-- `check_table`: the answer by the positions read is that by the table's, in either buffer.
+use Rattle.std.proofs.Common.{◌∙◌}
+use Rattle.model.specs.Bytes.{positions_of}
+use Rattle.params.specs.Codes.{profile_of}
+use Rattle.position_bytes.specs.Reads.{table_read}
+use Rattle.c_page.proofs.check_table.Goals as goal
+
+pub returns-then-table-le64 : goal.returns-then-table-le64
+returns-then-table-le64 c =
+    let a = c.args in
+    c.table_answer.ensures ∙ table_read (profile_of a.bits) a.q a.k a.b _ (positions_of a.table.now) c.read_positions-n.ensures.read
+
+pub returns : goal.returns
+returns c =
+    let a = c.args in
+    c.table_answer-2.ensures ∙ table_read (profile_of a.bits) a.q a.k a.b _ (positions_of a.table.now) c.read_positions-n-2.ensures.read
