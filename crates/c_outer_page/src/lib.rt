@@ -1,11 +1,14 @@
 // The C form of encode in blocks, which reads the positions of the table.
 #![tactic(auto)]
 
-ghost use Rattle.std.specs.Prelude.{◌≡◌};
+ghost use Rattle.std.specs.Prelude.{◌≡◌, OnOk};
 ghost use Rattle.model.specs.Code.{code_of};
 ghost use Rattle.model.specs.Calls.{encode_outer_outcome};
 ghost use Rattle.model.specs.Bytes.{positions_of};
 ghost use Rattle.model.specs.Demand.{EncodesOuter};
+ghost use Rattle.refusals.specs.Numbers.{answer};
+
+use refusals::Refusal;
 
 // Encodes data in blocks, each with an outer check. A small table is read into a small buffer, which costs less to clear.
 pub fn encode_outer(
@@ -16,10 +19,10 @@ pub fn encode_outer(
     block: u32,
     data: &[u8],
     page: &mut [u8],
-) -> u32
-    ensures outcome { record { number = result; left = page.new }
+) -> Result<(), Refusal>
+    ensures outcome { record { number = answer result; left = page.new }
         ≡ encode_outer_outcome (code_of q k b (positions_of table.now)) block «data».now page.old }
-    ensures word { result ≡ 0 → EncodesOuter (code_of q k b (positions_of table.now)) block «data».now page.new }
+    ensures word { OnOk result (EncodesOuter (code_of q k b (positions_of table.now)) block «data».now page.new) }
 {
     if table.len() <= 64 {
         let mut few = [0u16; 32];
