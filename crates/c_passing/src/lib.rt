@@ -1,15 +1,17 @@
 // The C form of a pass, which reads the positions of the table, has the buffer for the zeros and writes the changes as bytes.
 #![tactic(auto)]
 
-ghost use Rattle.std.specs.Prelude.{◌≡◌, ◌*◌, ◌≤◌, length};
+ghost use Rattle.std.specs.Prelude.{◌≡◌, ◌*◌, ◌≤◌, length, OnOk};
 ghost use Rattle.model.specs.Code.{code_in};
 ghost use Rattle.model.specs.Decoder.{state_by};
 ghost use Rattle.model.specs.Bytes.{positions_of, c_pass_outcome};
 ghost use Rattle.model.specs.Demand.{PassFalls};
 ghost use Rattle.theory.specs.Counters.{Clear};
 ghost use Rattle.params.specs.Codes.{profile_of, code_by};
+ghost use Rattle.refusals.specs.Numbers.{answer};
 
 use params::Params;
+use refusals::Refusal;
 
 // One pass, with the positions read and a buffer for the zeros; `bits`, the code's, is handed down by itself. The changes are written only
 // when the call is done.
@@ -25,12 +27,12 @@ fn pass_into(
     syndrome: &mut [u8],
     difference: &mut [u8],
     changes: &mut [u8],
-) -> u32
+) -> Result<(), Refusal>
     requires { (code.k ≤ 4294967295) × (code.b ≤ 4294967295) × (code.b * code.k ≤ 4096 → code.b * code.k ≤ length zeros.old)
         × Clear zeros.old
         × (bits ≡ code.bits) }
     ensures { record {
-      number = result;
+      number = answer result;
       left = record { state = state_by res.new syndrome.new difference.new; changes = changes.new };
     } ≡ c_pass_outcome (code_by code positions.now) threshold
         (state_by res.old syndrome.old difference.old) changes.old }
@@ -42,14 +44,11 @@ fn pass_into(
         bits: code.bits,
     };
     let others = changes.len() == 4;
-    let passed = passing::pass_with(
+    let count = passing::pass_with(
         others, bits, numbers, positions, threshold, zeros, res, syndrome, difference,
-    );
-    if passed.number != 0 {
-        return passed.number;
-    }
-    number_bytes::put_changes(changes, passed.changes);
-    0
+    )?;
+    number_bytes::put_changes(changes, count);
+    Ok(())
 }
 
 // One pass, with the positions read. A small code clears a small buffer for the zeros.
@@ -62,10 +61,10 @@ fn pass_sized(
     syndrome: &mut [u8],
     difference: &mut [u8],
     changes: &mut [u8],
-) -> u32
+) -> Result<(), Refusal>
     requires { (code.k ≤ 4294967295) × (code.b ≤ 4294967295) × (bits ≡ code.bits) }
     ensures { record {
-      number = result;
+      number = answer result;
       left = record { state = state_by res.new syndrome.new difference.new; changes = changes.new };
     } ≡ c_pass_outcome (code_by code positions.now) threshold
         (state_by res.old syndrome.old difference.old) changes.old }
@@ -94,14 +93,14 @@ pub fn pass(
     syndrome: &mut [u8],
     difference: &mut [u8],
     changes: &mut [u8],
-) -> u32
+) -> Result<(), Refusal>
     ensures outcome { record {
-      number = result;
+      number = answer result;
       left = record { state = state_by res.new syndrome.new difference.new; changes = changes.new };
     } ≡ c_pass_outcome (code_in (profile_of bits) q k b (positions_of table.now)) threshold
         (state_by res.old syndrome.old difference.old) changes.old }
-    ensures falling { result ≡ 0 → PassFalls (code_in (profile_of bits) q k b (positions_of table.now)) threshold
-        (state_by res.old syndrome.old difference.old) }
+    ensures falling { OnOk result (PassFalls (code_in (profile_of bits) q k b (positions_of table.now)) threshold
+        (state_by res.old syndrome.old difference.old)) }
 {
     let code = Params {
         q,
