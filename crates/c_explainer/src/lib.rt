@@ -1,4 +1,4 @@
-// The C form of explain, which reads the positions of the table and writes its answer as bytes.
+// The C form of explain, which reads the positions of the table and writes the explanation as bytes.
 #![tactic(auto)]
 
 ghost use Rattle.std.specs.Prelude.{◌≡◌, ◌≤◌};
@@ -6,10 +6,12 @@ ghost use Rattle.model.specs.Code.{code_in};
 ghost use Rattle.model.specs.Decoder.{state_by};
 ghost use Rattle.model.specs.Bytes.{positions_of, c_explain_outcome};
 ghost use Rattle.params.specs.Codes.{profile_of, code_by};
+ghost use Rattle.refusals.specs.Numbers.{answer};
 
 use params::Params;
+use refusals::Refusal;
 
-// Explains a data symbol, with the positions read. The answer is written only when the call is done.
+// Explains a data symbol, with the positions read. The explanation is written only when the call is done.
 // The code's numbers are handed on one by one, as by `c_passing::pass_into`.
 fn explain_into(
     code: Params,
@@ -19,12 +21,12 @@ fn explain_into(
     res: &[u8],
     syndrome: &[u8],
     difference: &[u8],
-    answer: &mut [u8],
-) -> u32
+    explanation: &mut [u8],
+) -> Result<(), Refusal>
     requires { (code.k ≤ 4294967295) × (code.b ≤ 4294967295) }
-    ensures { record { number = result; left = answer.new }
+    ensures { record { number = answer result; left = explanation.new }
         ≡ c_explain_outcome (code_by code positions.now) threshold symbol
-        (state_by res.now syndrome.now difference.now) answer.old }
+        (state_by res.now syndrome.now difference.now) explanation.old }
 {
     let numbers = Params {
         q: code.q,
@@ -32,22 +34,19 @@ fn explain_into(
         b: code.b,
         bits: code.bits,
     };
-    let others = answer.len() == 24;
+    let others = explanation.len() == 24;
     let told = explainer::explain_with(
         others, numbers, positions, threshold, symbol, res, syndrome, difference,
-    );
-    if told.number != 0 {
-        return told.number;
-    }
+    )?;
     number_bytes::put_answer(
-        answer,
-        told.ground,
+        explanation,
+        told.ground_number,
         told.leader,
         told.lead,
         told.next,
         told.bits,
     );
-    0
+    Ok(())
 }
 
 // Explains a data symbol, in the profile of bit pages or of bytes. A small table is read into a small buffer, which costs less to clear.
@@ -62,11 +61,11 @@ pub fn explain(
     res: &[u8],
     syndrome: &[u8],
     difference: &[u8],
-    answer: &mut [u8],
-) -> u32
-    ensures { record { number = result; left = answer.new }
+    explanation: &mut [u8],
+) -> Result<(), Refusal>
+    ensures { record { number = answer result; left = explanation.new }
         ≡ c_explain_outcome (code_in (profile_of bits) q k b (positions_of table.now)) threshold symbol
-        (state_by res.now syndrome.now difference.now) answer.old }
+        (state_by res.now syndrome.now difference.now) explanation.old }
 {
     let code = Params {
         q,
@@ -85,7 +84,7 @@ pub fn explain(
             res,
             syndrome,
             difference,
-            answer,
+            explanation,
         );
     }
     let mut positions = [0u16; 256];
@@ -98,6 +97,6 @@ pub fn explain(
         res,
         syndrome,
         difference,
-        answer,
+        explanation,
     )
 }
