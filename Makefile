@@ -32,7 +32,7 @@ EXPORTS := $(shell awk '!/^\#/ { print $$1 }' targets/exports)
 HEADERS := $(addprefix include/,$(shell awk '!/^\#/ { print $$2 }' targets/exports | sort -u))
 
 # What the archive is made from: every crate but the test programs, what these share, and the votes that are measured alone.
-SOURCES := $(shell find crates \( -path 'crates/*/out' -o -path 'crates/reference*' -o -path crates/records -o -path crates/runs -o -path crates/cases -o -path crates/votes \) -prune -o -type f -print) crates.txt
+SOURCES := $(shell find crates \( -path 'crates/*/out' -o -path 'crates/reference*' -o -path crates/records -o -path crates/runs -o -path crates/profiles -o -path crates/cases -o -path crates/votes \) -prune -o -type f -print) crates.txt
 VOTES_SOURCES := $(shell find crates/votes -path crates/votes/out -prune -o -type f -print)
 VERSION := $(shell awk '/define QMTD_VERSION_(MAJOR|MINOR|PATCH) / { v = v dot $$3; dot = "." } END { print v }' include/qmtd.h)
 TARGETS := $(shell awk '!/^\#/ { print $$1 }' targets/list)

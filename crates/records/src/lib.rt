@@ -1,327 +1,403 @@
-// The records of reference pages: their numbers and strings, and the memory that is lent to a call. tests/reference/README.md has the format.
+// The records of reference pages: their calls, numbers and strings, and the memory that is lent to a call. tests/reference/README.md has the format.
 #![tactic(auto)]
 
-ghost use Rattle.std.specs.Prelude.{◌≡◌, ◌≤◌, length};
+ghost use Rattle.std.specs.Prelude.{◌≡◌, ◌+◌, ◌^◌, ◌<◌, ◌≤◌, ◌↔◌, vec_len, IfOk, IsTrue};
+ghost use Rattle.records.specs.Calls.{first_call, place_of, call_number};
+ghost use Rattle.records.specs.Numbers.{number_among};
 
-use tally::Tally;
+use std::alloc::{AllocError, Global};
 
-// What memory lent for an answer holds before a call, and what lent margins hold, which no margin is.
-const FILL: u8 = 165;
+mod call;
+mod symbol;
 
-const FILL_MARGIN: i32 = 99;
+pub use call::{Call, Profile, Step, UnknownCall};
+pub use symbol::{Item, Symbol};
 
-// The most memory that a call is lent for one answer, and the most margins.
-const MOST: usize = 8300;
-
-const MOST_MARGINS: usize = 4100;
-
-fn number_of(a: u8, b: u8, c: u8, d: u8) -> u32 {
-    (a as u32) + 256 * (b as u32) + 65536 * (c as u32) + 16777216 * (d as u32)
+// Why a page is not run to its end.
+#[derive(Debug, Drop)]
+pub enum Fault {
+    // The record does not have what its call takes and leaves, and nothing else, or has more of it than is lent here.
+    Malformed,
+    Unknown(UnknownCall),
+    Memory(AllocError),
 }
 
-// The 32-bit number that stands at a place, low byte first; 0 past the end.
-pub fn number_at(bytes: &[u8], at: usize) -> u32 {
-    if bytes.len() < 4 {
-        return 0;
+impl From<UnknownCall> for Fault {
+    fn from(e: UnknownCall) -> Fault {
+        Fault::Unknown(e)
     }
-    if bytes.len() - 4 < at {
-        return 0;
-    }
-    number_of(bytes[at], bytes[at + 1], bytes[at + 2], bytes[at + 3])
 }
 
-// The signed number that has these 32 bits in two's complement.
-fn signed(bits: u32) -> i32 {
-    if bits < 2147483648 {
-        return bits as i32;
+impl From<AllocError> for Fault {
+    fn from(e: AllocError) -> Fault {
+        Fault::Memory(e)
     }
-    -1 - ((4294967295 - bits) as i32)
 }
 
-// The place so many bytes on; no place of a record, usize::MAX, where that is past the end.
-fn skip(record: &[u8], at: usize, len: usize) -> usize {
-    if record.len() < at {
-        return usize::MAX;
+// The 32-bit number at a place among those of a string, low byte first; 0 past the end.
+pub fn number_at(bytes: &[u8], place: usize) -> u32
+    ensures { result ≡ number_among bytes.now place }
+{
+    let (numbers, _) = bytes.as_chunks();
+    match numbers.get(place) {
+        Some(number) => u32::from_le_bytes(*number),
+        None => 0,
     }
-    if record.len() - at < len {
-        return usize::MAX;
-    }
-    at + len
 }
 
-// So many bytes from a place on; none where they are not all there.
-pub fn part(record: &[u8], at: usize, len: usize) -> &[u8] {
-    if record.len() < at {
-        return &record[..0];
-    }
-    if record.len() - at < len {
-        return &record[..0];
-    }
-    let end = at + len;
-    &record[at..end]
+// The 16-bit number at a place among those of a string, low byte first; past the end any.
+pub fn pair_at(bytes: &[u8], place: usize) -> u16
+    requires { place < 2 ^ 32 }
+{
+    u16::from_le_bytes([u8::at(bytes, 2 * place), u8::at(bytes, 2 * place + 1)])
 }
 
-// The number of a record's call.
-pub fn call_of(record: &[u8]) -> u32 {
-    number_at(record, 0)
-}
-
-// The number that the call must return.
-pub fn returned(record: &[u8]) -> u32 {
-    number_at(record, 4)
-}
-
-// One string of a record: its length, which of its contents the record gives, and where these start.
+// What is still to be read of some bytes.
 #[derive(Clone, Copy)]
-pub struct Piece {
-    pub len: usize,
-    pub gives: u32,
-    pub at: usize,
+struct Rest<'a>(&'a [u8]);
+
+impl<'a> Rest<'a> {
+    // The next bytes, so many.
+    fn take(&mut self, len: usize) -> Result<&'a [u8], Fault> {
+        let (taken, rest) = self.0.split_at_checked(len).ok_or(Fault::Malformed)?;
+        self.0 = rest;
+        Ok(taken)
+    }
+
+    // The next 32-bit number.
+    fn number(&mut self) -> Result<u32, Fault> {
+        Ok(number_at(self.take(4)?, 0))
+    }
 }
 
-impl Piece {
-    // The string whose length stands at a place.
-    fn read(record: &[u8], at: usize) -> Piece {
-        Piece {
-            len: number_at(record, at) as usize,
-            gives: number_at(record, skip(record, at, 4)),
-            at: skip(record, at, 8),
-        }
-    }
+// A record: a page, or what opens a group of them.
+#[derive(Clone, Copy)]
+pub struct Record<'a>(pub &'a [u8]);
 
-    // The first string, behind the four numbers of every record and those that the call takes.
-    pub fn first(record: &[u8]) -> Piece {
-        Piece::read(record, 16 + 4 * (number_at(record, 8) as usize))
-    }
-
-    // Where the content after the call stands: behind the one before it, where the record gives both.
-    fn due_at(self, record: &[u8]) -> usize {
-        if self.gives == 3 {
-            return skip(record, self.at, self.len);
-        }
-        self.at
-    }
-
-    // Where the contents end.
-    fn end(self, record: &[u8]) -> usize {
-        if self.gives == 0 {
-            return self.at;
-        }
-        skip(record, self.due_at(record), self.len)
-    }
-
-    pub fn next(self, record: &[u8]) -> Piece {
-        Piece::read(record, self.end(record))
-    }
-
-    // Is this the last string, with nothing behind it, of a record with so many numbers and strings?
-    pub fn is_last(self, record: &[u8], numbers: u32, strings: u32) -> bool {
-        number_at(record, 8) == numbers
-            && number_at(record, 12) == strings
-            && self.end(record) == record.len()
-    }
-
-    // What a call reads, or what lent memory holds before it.
-    pub fn content(self, record: &[u8]) -> &[u8] {
-        part(record, self.at, self.len)
-    }
-
-    // How much memory is lent for an answer.
-    pub fn lent(self) -> usize
-        ensures { result ≤ 8300 }
+impl<'a> Record<'a> {
+    // Does it stand before the pages of a group?
+    pub fn opens_group(self) -> bool
+        ensures { IsTrue result ↔ (number_among self.entry.0.now 0 ≡ 0) }
     {
-        if self.len < MOST { self.len } else { MOST }
+        number_at(self.0, 0) == 0
     }
 
-    // How many margins are lent, 4 bytes each in the record.
-    pub fn margins(self) -> usize
-        ensures { result ≤ 4100 }
+    pub fn call(self) -> Result<Call, UnknownCall>
+        ensures { IfOk result (λ call. call_number call ≡ number_among self.entry.0.now 0) }
     {
-        let n = self.len / 4;
-        if n < MOST_MARGINS { n } else { MOST_MARGINS }
+        Call::try_from(number_at(self.0, 0))
+    }
+
+    // Which of a profile's calls it is.
+    pub fn step(self, profile: Profile) -> Result<Step, UnknownCall>
+        ensures { IfOk result (λ step. first_call profile + place_of step ≡ number_among self.entry.0.now 0) }
+    {
+        match self.call()? {
+            Call::Of(of, step) if of == profile => Ok(step),
+            _ => Err(self.unknown()),
+        }
+    }
+
+    // Its call, for a program that does not make it.
+    pub fn unknown(self) -> UnknownCall
+        ensures { result.0 ≡ number_among self.entry.0.now 0 }
+    {
+        UnknownCall(number_at(self.0, 0))
+    }
+
+    // The name of the group that it opens.
+    pub fn name(self) -> Result<&'a [u8], Fault> {
+        let mut rest = Rest(self.0);
+        rest.take(8)?;
+        let numbers = rest.number()?;
+        rest.take(4)?;
+        rest.take(4 * (numbers as usize))?;
+        let len = rest.number()?;
+        rest.take(4)?;
+        rest.take(len as usize)
+    }
+
+    // Can the calls of the group that it opens be made in C alone?
+    pub fn c_only(self) -> bool
+        ensures { IsTrue result ↔ (number_among self.entry.0.now 4 ≡ 1) }
+    {
+        number_at(self.0, 4) == 1
+    }
+
+    // The page that it is, with the memory that its call is lent to come from an allocator.
+    pub fn page(self, alloc: Global) -> Result<Page<'a>, Fault>
+        ensures { IfOk result (λ page. page.returned ≡ number_among self.entry.0.now 1) }
+    {
+        let returned = number_at(self.0, 1);
+        let mut rest = Rest(self.0);
+        rest.take(8)?;
+        let numbers = rest.number()?;
+        let strings = rest.number()?;
+        let numbers = Rest(rest.take(4 * (numbers as usize))?);
+        Ok(Page {
+            returned,
+            numbers,
+            strings,
+            rest,
+            alloc,
+        })
+    }
+}
+
+// A page: the number that its call must return, and what is still to be read of its numbers and, so many, of its strings.
+#[derive(Clone, Copy)]
+pub struct Page<'a> {
+    pub returned: u32,
+    numbers: Rest<'a>,
+    strings: u32,
+    rest: Rest<'a>,
+    alloc: Global,
+}
+
+impl<'a> Page<'a> {
+    pub fn number(&mut self) -> Result<u32, Fault> {
+        self.numbers.number()
+    }
+
+    pub fn string(&mut self) -> Result<Piece<'a>, Fault> {
+        self.strings = self.strings.checked_sub(1).ok_or(Fault::Malformed)?;
+        Piece::read(&mut self.rest)
+    }
+
+    // Nothing is left.
+    pub fn end(self) -> Result<(), Fault> {
+        if self.numbers.0.is_empty() && self.strings == 0 && self.rest.0.is_empty() {
+            Ok(())
+        } else {
+            Err(Fault::Malformed)
+        }
+    }
+
+    // The code: k, b and, as the first string, the table.
+    pub fn code(&mut self) -> Result<Code, Fault>
+        ensures { IfOk result (λ c. vec_len c.positions ≤ MOST_POSITIONS) }
+    {
+        let k = self.number()?;
+        let b = self.number()?;
+        let table = self.string()?;
+        let n = (table.len / 2).min(MOST_POSITIONS);
+        let mut positions = vec![in self.alloc; 0u16; n]?;
+        for (i, position) in positions.iter_mut().enumerate() {
+            *position = pair_at(table.content, i);
+        }
+        Ok(Code { k, b, positions })
+    }
+
+    // A string that the call reads as symbols.
+    pub fn symbols<S: Symbol>(&mut self) -> Result<Vec<S>, Fault> {
+        let piece = self.string()?;
+        Ok(S::read(piece.content, piece.len, self.alloc)?)
+    }
+
+    // Memory to lend for an answer.
+    pub fn lend<S: Item>(&mut self) -> Result<Lent<'a, S>, Fault>
+        ensures { IfOk result (λ it. vec_len it.memory ≤ S.MOST) }
+    {
+        self.lend_up_to(S::MOST)
+    }
+
+    // The same, where no more than so many symbols are lent.
+    pub fn lend_up_to<S: Item>(&mut self, most: usize) -> Result<Lent<'a, S>, Fault>
+        ensures { IfOk result (λ it. vec_len it.memory ≤ most) }
+    {
+        let piece = self.string()?;
+        if piece.gives == Gives::Nothing && MOST_KEPT < piece.len {
+            return Err(Fault::Malformed);
+        }
+        piece.lend(most, self.alloc)
+    }
+
+    // Memory to lend that holds the content.
+    pub fn hold<S: Item>(&mut self) -> Result<Lent<'a, S>, Fault>
+        ensures { IfOk result (λ it. vec_len it.memory ≤ S.MOST) }
+    {
+        let mut it = self.lend()?;
+        it.hold();
+        Ok(it)
+    }
+
+    // Memory to lend for margins, which a record gives after the call or not at all.
+    pub fn lend_margins(&mut self) -> Result<Lent<'a, i32>, Fault>
+        ensures { IfOk result (λ it. vec_len it.memory ≤ 4100) }
+    {
+        let piece = self.string()?;
+        let due = match piece.gives {
+            Gives::After => piece.due,
+            _ => None,
+        };
+        Piece { due, ..piece }.lend(i32::MOST, self.alloc)
+    }
+
+    // The buffers of a page: memory to lend for answers.
+    pub fn lend_buffers<S: Item>(&mut self) -> Result<Buffers<'a, S>, Fault> {
+        Ok(Buffers {
+            result: self.lend()?,
+            syndrome: self.lend()?,
+            difference: self.lend()?,
+        })
+    }
+
+    // The same, holding their contents.
+    pub fn hold_buffers<S: Item>(&mut self) -> Result<Buffers<'a, S>, Fault> {
+        Ok(Buffers {
+            result: self.hold()?,
+            syndrome: self.hold()?,
+            difference: self.hold()?,
+        })
+    }
+}
+
+// Which contents of a string a record gives.
+#[derive(Clone, Copy, Debug, PartialEq, Eq)]
+enum Gives {
+    Nothing,
+    Before,
+    After,
+    Both,
+}
+
+impl From<u32> for Gives {
+    fn from(number: u32) -> Gives {
+        match number {
+            0 => Gives::Nothing,
+            2 => Gives::After,
+            3 => Gives::Both,
+            _ => Gives::Before,
+        }
+    }
+}
+
+// One string of a record: what a call reads of it or what memory lent for it may hold before the call, and what that must hold after it.
+#[derive(Clone, Copy)]
+pub struct Piece<'a> {
+    pub len: usize,
+    gives: Gives,
+    // The bytes behind its head, so many; none where they are not all there.
+    pub content: &'a [u8],
+    // The content after the call; none where that is as it was.
+    due: Option<&'a [u8]>,
+}
+
+impl<'a> Piece<'a> {
+    fn read(rest: &mut Rest<'a>) -> Result<Piece<'a>, Fault> {
+        let len = rest.number()? as usize;
+        let gives = Gives::from(rest.number()?);
+        let content = rest.0.get(..len).unwrap_or(&[]);
+        let due = match gives {
+            Gives::Nothing => None,
+            Gives::Before | Gives::After => Some(rest.take(len)?),
+            Gives::Both => {
+                rest.take(len)?;
+                Some(rest.take(len)?)
+            }
+        };
+        Ok(Piece {
+            len,
+            gives,
+            content,
+            due,
+        })
+    }
+
+    // Memory to lend for an answer, where no more than so many are lent.
+    fn lend<S: Item>(self, most: usize, alloc: Global) -> Result<Lent<'a, S>, Fault>
+        ensures { IfOk result (λ it. vec_len it.memory ≤ most) }
+    {
+        let n = S::count(self.len).ok_or(Fault::Malformed)?;
+        if most < n {
+            return Err(Fault::Malformed);
+        }
+        Ok(Lent {
+            piece: self,
+            memory: vec![in alloc; S::FILL; n]?,
+        })
     }
 
     // The number at a place of what the call must write; 0 where the record does not give that.
-    pub fn written(self, record: &[u8], at: usize) -> u32 {
-        if self.gives != 2 {
-            return 0;
+    pub fn written(self, place: usize) -> u32 {
+        match self.gives {
+            Gives::After => number_at(self.content, place),
+            _ => 0,
         }
-        number_at(record, skip(record, self.at, at))
     }
 
-    // Lent memory after the call: as the record gives it, or else as it was.
-    pub fn is_due(self, record: &[u8], lent: &[u8]) -> bool {
-        if lent.len() != self.len {
-            return false;
-        }
-        if self.gives == 0 {
-            return is_filled(lent);
-        }
-        check::same(lent, part(record, self.due_at(record), self.len))
-    }
-
-    // A margin after the call: as the record gives it at a place, or else as it was.
-    fn due_margin(self, record: &[u8], at: usize) -> i32 {
-        if self.gives == 2 {
-            return signed(number_at(record, at));
-        }
-        FILL_MARGIN
-    }
-
-    // Lent margins after the call.
-    pub fn margins_are_due(self, record: &[u8], margins: &[i32]) -> bool {
-        let n = margins.len();
-        let mut at = self.at;
-        let mut i = 0;
-        while i < n {
-            if margins[i] != self.due_margin(record, at) {
-                return false;
-            }
-            at = skip(record, at, 4);
-            i += 1;
-        }
-        self.len % 4 == 0 && self.len / 4 == n
-    }
-
-    // The four counts that a decode handed back: as the record gives them, or else all 0.
-    pub fn counts_are_due(self, record: &[u8], tally: Tally) -> bool {
-        self.len == 16
-            && tally.passes == self.written(record, 0)
-            && tally.changes == self.written(record, 4)
-            && tally.start == self.written(record, 8)
-            && tally.end == self.written(record, 12)
-    }
-
-    // The margins of a decode with so many numbers, and the counts behind them, which are its last string.
-    pub fn decode_is_due(self, record: &[u8], margins: &[i32], tally: Tally, numbers: u32) -> bool {
-        let counts = self.next(record);
-        self.margins_are_due(record, margins)
-            && counts.counts_are_due(record, tally)
-            && counts.is_last(record, numbers, 8)
+    // Are these the numbers that the call must write?
+    pub fn holds(self, numbers: &[u32]) -> bool {
+        self.len % 4 == 0
+            && self.len / 4 == numbers.len()
+            && numbers
+                .iter()
+                .enumerate()
+                .all(|(i, x)| *x == self.written(i))
     }
 }
 
-// The buffers of a page, three strings in a row.
-#[derive(Clone, Copy)]
-pub struct Buffers {
-    pub result: Piece,
-    pub syndrome: Piece,
-    pub difference: Piece,
+// Memory that is lent to a call for a string of its record.
+#[derive(Drop)]
+pub struct Lent<'a, S> {
+    piece: Piece<'a>,
+    pub memory: Vec<S>,
 }
 
-impl Buffers {
-    // Those whose first is this string.
-    pub fn from(record: &[u8], res: Piece) -> Buffers {
-        let syndrome = res.next(record);
-        let difference = syndrome.next(record);
-        Buffers {
-            result: res,
-            syndrome,
-            difference,
+impl<'a, S: Item> Lent<'a, S> {
+    // Lets it hold the content.
+    pub fn hold(&mut self)
+        ensures { vec_len self.new.memory ≡ vec_len self.old.memory }
+    {
+        let content = self.piece.content;
+        for (i, x) in self.memory.iter_mut().enumerate() {
+            *x = S::at(content, i);
         }
     }
 
-    // The string behind them.
-    pub fn next(self, record: &[u8]) -> Piece {
-        self.difference.next(record)
+    // Does the record give the content after the call alone?
+    pub fn is_for_output(&self) -> bool {
+        self.piece.gives == Gives::After
     }
 
+    // After the call: as the record gives it, or else as it was.
+    pub fn is_due(&self) -> bool {
+        match self.piece.due {
+            Some(due) => self
+                .memory
+                .iter()
+                .enumerate()
+                .all(|(i, x)| *x == S::at(due, i)),
+            None => self.memory.iter().all(|x| *x == S::FILL),
+        }
+    }
+}
+
+// The buffers of a page.
+#[derive(Drop)]
+pub struct Buffers<'a, S> {
+    pub result: Lent<'a, S>,
+    pub syndrome: Lent<'a, S>,
+    pub difference: Lent<'a, S>,
+}
+
+impl<'a, S: Item> Buffers<'a, S> {
     // The three after the call.
-    pub fn are_due(self, record: &[u8], res: &[u8], syndrome: &[u8], difference: &[u8]) -> bool {
-        self.result.is_due(record, res)
-            && self.syndrome.is_due(record, syndrome)
-            && self.difference.is_due(record, difference)
+    pub fn are_due(&self) -> bool {
+        self.result.is_due() && self.syndrome.is_due() && self.difference.is_due()
     }
 }
 
-// Memory to lend for an answer.
-pub fn filled() -> [u8; MOST]
-    ensures { 8300 ≡ length result }
-{
-    [FILL; MOST]
-}
-
-pub fn filled_margins() -> [i32; MOST_MARGINS]
-    ensures { 4100 ≡ length result }
-{
-    [FILL_MARGIN; MOST_MARGINS]
-}
-
-// A buffer that no call has written.
-fn is_filled(lent: &[u8]) -> bool {
-    let n = lent.len();
-    if MOST < n {
-        return false;
-    }
-    let fill = filled();
-    check::same(lent, &fill[0..n])
-}
-
-// The byte at a place; past the end the one that fills lent memory.
-fn byte_at(bytes: &[u8], at: usize) -> u8 {
-    if bytes.len() <= at {
-        return FILL;
-    }
-    bytes[at]
-}
-
-// Memory to lend that holds these bytes.
-pub fn holding(bytes: &[u8]) -> [u8; MOST]
-    ensures { 8300 ≡ length result }
-{
-    let mut lent = [FILL; MOST];
-    let mut i = 0;
-    while i < MOST {
-        lent[i] = byte_at(bytes, i);
-        i += 1;
-    }
-    lent
-}
-
-// The numbers that every call takes, and how many positions its table has.
-#[derive(Clone, Copy)]
+// The numbers that every call takes, and the positions of its table.
+#[derive(Drop)]
 pub struct Code {
-    pub q: u32,
     pub k: u32,
     pub b: u32,
-    pub n: usize,
+    pub positions: Vec<u16>,
 }
 
-impl Code {
-    // The table is the first string.
-    pub fn of(record: &[u8]) -> Code
-        ensures { result.n ≤ 300 }
-    {
-        let len = Piece::first(record).len;
-        Code {
-            q: number_at(record, 16),
-            k: number_at(record, 20),
-            b: number_at(record, 24),
-            n: if len < 600 { len / 2 } else { 300 },
-        }
-    }
-}
+// The most bytes of symbols that a call must leave as they were lent, where a record gives nothing of them.
+const MOST_KEPT: usize = 8300;
 
-fn position_of(low: u8, high: u8) -> u16 {
-    (low as u16) + 256 * (high as u16)
-}
-
-// The positions in a table's bytes; past their end any.
-fn read_positions(table: &[u8]) -> [u16; 300]
-    ensures { 300 ≡ length result }
-{
-    let mut positions = [0u16; 300];
-    let mut i = 0;
-    while i < 300 {
-        positions[i] = position_of(byte_at(table, 2 * i), byte_at(table, 2 * i + 1));
-        i += 1;
-    }
-    positions
-}
-
-// The positions of a record's table.
-pub fn positions_of(record: &[u8]) -> [u16; 300]
-    ensures { 300 ≡ length result }
-{
-    read_positions(Piece::first(record).content(record))
-}
+// The most positions of a table.
+const MOST_POSITIONS: usize = 300;

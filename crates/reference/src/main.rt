@@ -2,281 +2,134 @@
 // for each group how many there are and how many came out wrong.
 #![tactic(auto)]
 
-use explainer::Explained;
-use records::{Buffers, Code, Piece, number_at, returned};
-use runs::{MOST_RECORD, Run};
+use profiles::{Answer, Calls, Explanation, State, answer};
+use records::{Buffers, Code, Fault, Page, Profile};
+use runs::MOST_RECORD;
 use std::io;
+use tally::Tally;
 
-// Is what the call returns and writes what its record gives? A function for each call, and one below it where memory is lent.
-fn check_table_is_right(record: &[u8], code: Code, positions: &[u16]) -> bool {
-    table::check_table(code.q, code.k, code.b, positions) == returned(record)
-        && Piece::first(record).is_last(record, 3, 1)
+// The calls on pages of bytes, with the q that they take.
+#[derive(Drop)]
+struct Bytes {
+    q: u32,
 }
 
-// Encode or syndrome, which take one input and one lent buffer.
-fn encode_or_syndrome(
-    record: &[u8],
-    code: Code,
-    positions: &[u16],
-    input: &[u8],
-    lent: &mut [u8],
-) -> u32 {
-    if records::call_of(record) == 2 {
-        return page::encode(code.q, code.k, code.b, positions, input, lent);
+impl Calls for Bytes {
+    type Symbol = u8;
+
+    const PROFILE: Profile = Profile::Bytes;
+
+    fn read(page: &mut Page<'_>) -> Result<Bytes, Fault> {
+        Ok(Bytes { q: page.number()? })
     }
-    page::syndrome(code.q, code.k, code.b, positions, input, lent)
-}
 
-fn encode_or_syndrome_with(
-    record: &[u8],
-    code: Code,
-    positions: &[u16],
-    input: Piece,
-    lent: &mut [u8],
-) -> bool {
-    let output = input.next(record);
-    encode_or_syndrome(record, code, positions, input.content(record), lent) == returned(record)
-        && output.is_due(record, lent)
-        && output.is_last(record, 3, 3)
-}
+    fn check_table(&self, code: &Code) -> Answer<()> {
+        answer(
+            table::check_table(self.q, code.k, code.b, &code.positions),
+            (),
+        )
+    }
 
-fn encode_or_syndrome_is_right(record: &[u8], code: Code, positions: &[u16]) -> bool {
-    let input = Piece::first(record).next(record);
-    let mut lent = records::filled();
-    let n = input.next(record).lent();
-    encode_or_syndrome_with(record, code, positions, input, &mut lent[0..n])
-}
+    fn encode(&self, code: &Code, symbols: &[u8], page: &mut [u8]) -> Answer<()> {
+        answer(
+            page::encode(self.q, code.k, code.b, &code.positions, symbols, page),
+            (),
+        )
+    }
 
-fn decode_with(
-    record: &[u8],
-    code: Code,
-    positions: &[u16],
-    page: Piece,
-    buffers: Buffers,
-    res: &mut [u8],
-    syndrome: &mut [u8],
-    difference: &mut [u8],
-    margins: &mut [i32],
-) -> bool {
-    let got = decoder::decode(
-        code.q,
-        code.k,
-        code.b,
-        positions,
-        page.content(record),
-        page.next(record).content(record),
-        res,
-        syndrome,
-        difference,
-        margins,
-    );
-    got.number == returned(record)
-        && buffers.are_due(record, res, syndrome, difference)
-        && buffers
-            .next(record)
-            .decode_is_due(record, margins, got.tally, 3)
-}
+    fn syndrome(&self, code: &Code, page: &[u8], s: &mut [u8]) -> Answer<()> {
+        answer(
+            page::syndrome(self.q, code.k, code.b, &code.positions, page, s),
+            (),
+        )
+    }
 
-fn decode_is_right(record: &[u8], code: Code, positions: &[u16]) -> bool {
-    let page = Piece::first(record).next(record);
-    let buffers = Buffers::from(record, page.next(record).next(record));
-    let mut result = records::filled();
-    let mut syndrome = records::filled();
-    let mut difference = records::filled();
-    let mut margins = records::filled_margins();
-    let a = buffers.result.lent();
-    let b = buffers.syndrome.lent();
-    let c = buffers.difference.lent();
-    let d = buffers.next(record).margins();
-    decode_with(
-        record,
-        code,
-        positions,
-        page,
-        buffers,
-        &mut result[0..a],
-        &mut syndrome[0..b],
-        &mut difference[0..c],
-        &mut margins[0..d],
-    )
-}
+    fn decode(
+        &self,
+        code: &Code,
+        page: &[u8],
+        thresholds: &[u8],
+        buffers: &mut Buffers<'_, u8>,
+        margins: &mut [i32],
+    ) -> Answer<Tally> {
+        let got = decoder::decode(
+            self.q,
+            code.k,
+            code.b,
+            &code.positions,
+            page,
+            thresholds,
+            &mut buffers.result.memory,
+            &mut buffers.syndrome.memory,
+            &mut buffers.difference.memory,
+            margins,
+        );
+        answer(got.number, got.tally)
+    }
 
-fn open_with(
-    record: &[u8],
-    code: Code,
-    positions: &[u16],
-    page: Piece,
-    buffers: Buffers,
-    res: &mut [u8],
-    syndrome: &mut [u8],
-    difference: &mut [u8],
-) -> bool {
-    let number = opener::open(
-        code.q,
-        code.k,
-        code.b,
-        positions,
-        page.content(record),
-        res,
-        syndrome,
-        difference,
-    );
-    number == returned(record)
-        && buffers.are_due(record, res, syndrome, difference)
-        && buffers.difference.is_last(record, 3, 5)
-}
+    fn open(&self, code: &Code, page: &[u8], buffers: &mut Buffers<'_, u8>) -> Answer<()> {
+        let number = opener::open(
+            self.q,
+            code.k,
+            code.b,
+            &code.positions,
+            page,
+            &mut buffers.result.memory,
+            &mut buffers.syndrome.memory,
+            &mut buffers.difference.memory,
+        );
+        answer(number, ())
+    }
 
-fn open_is_right(record: &[u8], code: Code, positions: &[u16]) -> bool {
-    let page = Piece::first(record).next(record);
-    let buffers = Buffers::from(record, page.next(record));
-    let mut result = records::filled();
-    let mut syndrome = records::filled();
-    let mut difference = records::filled();
-    let a = buffers.result.lent();
-    let b = buffers.syndrome.lent();
-    let c = buffers.difference.lent();
-    open_with(
-        record,
-        code,
-        positions,
-        page,
-        buffers,
-        &mut result[0..a],
-        &mut syndrome[0..b],
-        &mut difference[0..c],
-    )
-}
+    fn pass(&self, code: &Code, threshold: u32, buffers: &mut Buffers<'_, u8>) -> Answer<u32> {
+        let got = passing::pass(
+            self.q,
+            code.k,
+            code.b,
+            &code.positions,
+            threshold,
+            &mut buffers.result.memory,
+            &mut buffers.syndrome.memory,
+            &mut buffers.difference.memory,
+        );
+        answer(got.number, got.changes)
+    }
 
-// The threshold of a pass or an explanation.
-fn threshold_of(record: &[u8]) -> u32 {
-    number_at(record, 28)
-}
-
-// The changes that a pass handed back: as the record gives them, or else 0.
-fn changes_are_due(record: &[u8], piece: Piece, changes: u32) -> bool {
-    piece.len == 4 && changes == piece.written(record, 0) && piece.is_last(record, 4, 5)
-}
-
-// A pass reads the memory that it writes.
-fn pass_with(
-    record: &[u8],
-    code: Code,
-    positions: &[u16],
-    buffers: Buffers,
-    res: &mut [u8],
-    syndrome: &mut [u8],
-    difference: &mut [u8],
-) -> bool {
-    let got = passing::pass(
-        code.q,
-        code.k,
-        code.b,
-        positions,
-        threshold_of(record),
-        res,
-        syndrome,
-        difference,
-    );
-    got.number == returned(record)
-        && buffers.are_due(record, res, syndrome, difference)
-        && changes_are_due(record, buffers.next(record), got.changes)
-}
-
-fn pass_is_right(record: &[u8], code: Code, positions: &[u16]) -> bool {
-    let buffers = Buffers::from(record, Piece::first(record).next(record));
-    let mut result = records::holding(buffers.result.content(record));
-    let mut syndrome = records::holding(buffers.syndrome.content(record));
-    let mut difference = records::holding(buffers.difference.content(record));
-    let a = buffers.result.lent();
-    let b = buffers.syndrome.lent();
-    let c = buffers.difference.lent();
-    pass_with(
-        record,
-        code,
-        positions,
-        buffers,
-        &mut result[0..a],
-        &mut syndrome[0..b],
-        &mut difference[0..c],
-    )
-}
-
-// The answer that an explanation handed back: as the record gives it, or else all 0.
-fn answer_is_due(record: &[u8], answer: Piece, got: Explained) -> bool {
-    let low = answer.written(record, 16);
-    let high = answer.written(record, 20);
-    answer.len == 24
-        && got.ground == answer.written(record, 0)
-        && got.leader == answer.written(record, 4)
-        && got.lead == answer.written(record, 8)
-        && got.next == answer.written(record, 12)
-        && got.bits == (low as u64) + 4294967296 * (high as u64)
-}
-
-// An explanation only reads the three buffers.
-fn explain_is_right(record: &[u8], code: Code, positions: &[u16]) -> bool {
-    let buffers = Buffers::from(record, Piece::first(record).next(record));
-    let answer = buffers.next(record);
-    let got = explainer::explain(
-        code.q,
-        code.k,
-        code.b,
-        positions,
-        threshold_of(record),
-        number_at(record, 32),
-        buffers.result.content(record),
-        buffers.syndrome.content(record),
-        buffers.difference.content(record),
-    );
-    got.number == returned(record)
-        && answer_is_due(record, answer, got)
-        && answer.is_last(record, 5, 5)
-}
-
-fn call_is_right(
-    rt: &impl Print,
-    record: &[u8],
-    code: Code,
-    positions: &[u16],
-) -> io::Result<bool> {
-    let call = records::call_of(record);
-    match call {
-        1 => Ok(check_table_is_right(record, code, positions)),
-        2 | 3 => Ok(encode_or_syndrome_is_right(record, code, positions)),
-        4 => Ok(decode_is_right(record, code, positions)),
-        5 => Ok(open_is_right(record, code, positions)),
-        6 => Ok(pass_is_right(record, code, positions)),
-        7 => Ok(explain_is_right(record, code, positions)),
-        _ => runs::is_unknown(rt, call),
+    fn explain(
+        &self,
+        code: &Code,
+        threshold: u32,
+        symbol: u32,
+        state: &State<u8>,
+    ) -> Answer<Explanation> {
+        let got = explainer::explain(
+            self.q,
+            code.k,
+            code.b,
+            &code.positions,
+            threshold,
+            symbol,
+            &state.result,
+            &state.syndrome,
+            &state.difference,
+        );
+        let told = Explanation {
+            ground: got.ground,
+            leader: got.leader,
+            lead: got.lead,
+            next: got.next,
+            bits: got.bits,
+        };
+        answer(got.number, told)
     }
 }
 
-fn is_right(rt: &impl Print, record: &[u8]) -> io::Result<bool> {
-    let code = Code::of(record);
-    let positions = records::positions_of(record);
-    let n = code.n;
-    call_is_right(rt, record, code, &positions[0..n])
-}
-
-// Reads the next record and, where it is a page, runs it.
-fn run_next(rt: &impl Print, run: Run) -> io::Result<Run> {
-    let mut memory = [0u8; MOST_RECORD];
-    let next = run.next(rt, &mut memory)?;
-    if next.len == 0 {
-        return Ok(next);
-    }
-    let right = is_right(rt, next.page(&memory))?;
-    Ok(next.count(right))
-}
-
-// The turns are bounded by a number that no file uses up, since nothing says that a file ends.
 fn main(rt: HostRuntime) -> io::Result<()> {
-    let mut run = Run::open(&rt)?;
-    for _ in 0..u64::MAX {
-        if run.ended {
-            break;
-        }
-        run = run_next(&rt, run)?;
-    }
-    run.close(&rt)
+    let alloc = rt.alloc();
+    runs::run(
+        &rt,
+        alloc,
+        MOST_RECORD,
+        |record| profiles::is_right::<Bytes>(record, alloc),
+    )
 }

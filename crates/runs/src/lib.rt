@@ -2,154 +2,140 @@
 // tests/reference/README.md has the format.
 #![tactic(auto)]
 
-ghost use Rattle.std.specs.Prelude.{◌≡◌, ◌≤◌, length, IfOk};
+ghost use Rattle.std.specs.Prelude.{◌≤◌, vec_len};
 
-use records::{Piece, number_at};
+use records::{Fault, Record};
+use std::alloc::Global;
 use std::fs::File;
-use std::io;
 use std::io::Read;
 use std::rt::Files;
+use std::{fmt, io};
 
-// The most bytes of a record.
+// The most bytes of a record, but for files of pages.
 pub const MOST_RECORD: usize = 40960;
 
-// A page whose call a program does not know came out wrong.
-pub fn is_unknown(rt: &impl Print, call: u32) -> io::Result<bool> {
-    println!(rt; "\nno call here has the number {call}")?;
-    Ok(false)
+// A group: how many pages there were, and how many came out wrong; none where its calls can be made in C alone.
+#[derive(Clone, Copy)]
+struct Group {
+    pages: u64,
+    wrong: Option<u64>,
 }
 
-// Reads up to the buffer's end or the file's, and says how many bytes that were.
-fn read_full(file: &mut impl Read, buf: &mut [u8]) -> io::Result<usize>
-    ensures { IfOk result (λ n. n ≤ length buf.new) }
-{
-    let mut at = 0;
-    while at < buf.len() {
-        let n = file.read(&mut buf[at..])?;
-        if n == 0 {
-            break;
-        }
-        at += n;
-    }
-    Ok(at)
-}
-
-// The file; of the group at hand how many pages there were, how many came out wrong, and whether its calls can be made in C alone; the length
-// of the page to be run now, 0 where there is none; and whether the file has ended.
-#[derive(Drop)]
-pub struct Run {
-    pub file: File,
-    pub pages: u64,
-    pub wrong: u64,
-    pub c_only: bool,
-    pub len: usize,
-    pub ended: bool,
-}
-
-// One more, as long as that fits.
-fn one_more(n: u64) -> u64 {
-    if n < u64::MAX { n + 1 } else { n }
-}
-
-impl Run {
-    // At the start of a group.
-    fn of(file: File, c_only: bool) -> Run {
-        Run {
-            file,
-            pages: 0,
-            wrong: 0,
-            c_only,
-            len: 0,
-            ended: false,
+// The rest of the line that the group's name began.
+impl fmt::Display for Group {
+    fn fmt<W: fmt::Write>(&self, f: &mut fmt::Formatter<W>) -> fmt::Result {
+        let pages = self.pages;
+        match self.wrong {
+            Some(wrong) => write!(f, ": {pages} pages, {wrong} wrong"),
+            None => write!(f, ": {pages} pages, for the C form only"),
         }
     }
+}
 
-    fn end(mut self) -> Run {
-        self.ended = true;
-        self
-    }
-
-    // The run of pages.bin.
-    pub fn open(rt: &impl Files<File = File>) -> io::Result<Run> {
-        Ok(Run::of(File::open(rt, "pages.bin")?, false))
-    }
-
-    fn cut_off(self, rt: &impl Print) -> io::Result<Run> {
-        println!(rt; "\nthe file ends within a record")?;
-        Ok(self.end())
-    }
-
-    // The rest of the line that the group's name began.
-    fn print(&self, rt: &impl Print) -> io::Result<()> {
+impl Group {
+    fn print(self, rt: &impl Print) -> io::Result<()> {
         if self.pages == 0 {
             return Ok(());
         }
-        let pages = self.pages;
-        print!(rt; ": {pages} pages, ")?;
-        if self.c_only {
-            println!(rt; "for the C form only")
-        } else {
-            let wrong = self.wrong;
-            println!(rt; "{wrong} wrong")
+        println!(rt; "{self}")
+    }
+
+    // With a page that was run, or is not to be run here; as long as the counts fit.
+    fn count(self, right: bool) -> Group {
+        Group {
+            pages: self.pages.saturating_add(1),
+            wrong: match self.wrong {
+                Some(wrong) if !right => Some(wrong.saturating_add(1)),
+                wrong => wrong,
+            },
         }
     }
 
-    // With one page more.
-    pub fn count(mut self, right: bool) -> Run {
-        self.pages = one_more(self.pages);
-        if !right {
-            self.wrong = one_more(self.wrong);
-        }
-        self
-    }
-
-    // With a record that was read: one that opens a group has a number, 1 where the group's calls can be made in C alone, and the group's
-    // name; a page in C alone is counted; any other is to be run.
-    fn take(mut self, rt: &impl Print, record: &[u8]) -> io::Result<Run> {
-        if records::call_of(record) == 0 {
+    // With the record that was read: the group that it opens, or this one with its page.
+    fn after<F: Fn(Record<'_>) -> Result<bool, Fault>>(
+        self,
+        rt: &impl Print,
+        record: Record<'_>,
+        is_right: &F,
+    ) -> io::Result<Group>
+        requires { F.IsAlwaysCallable is_right.now }
+    {
+        if record.opens_group() {
             self.print(rt)?;
-            rt.write_all(Piece::first(record).content(record))?;
-            return Ok(Run::of(self.file, number_at(record, 16) == 1));
+            rt.write_all(record.name().unwrap_or(&[]))?;
+            return Ok(Group {
+                pages: 0,
+                wrong: if record.c_only() { None } else { Some(0) },
+            });
         }
-        if self.c_only {
+        if self.wrong.is_none() {
             return Ok(self.count(true));
         }
-        self.len = record.len();
-        Ok(self)
-    }
-
-    fn read(mut self, rt: &impl Print, record: &mut [u8]) -> io::Result<Run> {
-        if read_full(&mut self.file, record)? != record.len() {
-            return self.cut_off(rt);
+        match is_right(record) {
+            Ok(right) => Ok(self.count(right)),
+            Err(Fault::Malformed) => Ok(self.count(false)),
+            Err(Fault::Unknown(call)) => {
+                println!(rt; "\n{call}")?;
+                Ok(self.count(false))
+            }
+            Err(Fault::Memory(e)) => Err(e.into()),
         }
-        self.take(rt, record)
     }
+}
 
-    // Reads the next record into this memory.
-    pub fn next(mut self, rt: &impl Print, memory: &mut [u8]) -> io::Result<Run> {
-        self.len = 0;
-        let mut length = [0u8; 4];
-        let got = read_full(&mut self.file, &mut length)?;
-        if got == 0 {
-            return Ok(self.end());
-        }
-        let n = number_at(&length, 0) as usize;
-        if got != 4 {
-            return self.cut_off(rt);
-        }
-        if memory.len() < n {
-            return self.cut_off(rt);
-        }
-        self.read(rt, &mut memory[0..n])
-    }
+// What is next in a file.
+#[derive(Drop)]
+enum Next {
+    Record(Vec<u8>),
+    // Less than a record, or more than is read into memory.
+    CutOff,
+    End,
+}
 
-    // The page to be run, from the memory that it was read into.
-    pub fn page<'a>(&self, memory: &'a [u8]) -> &'a [u8] {
-        records::part(memory, 0, self.len)
+// Reads the next record, its length first.
+fn read_next(file: &mut impl Read, alloc: Global, most: usize) -> io::Result<Next> {
+    let mut length = Vec::new(alloc);
+    match file.take(4).read_to_end(&mut length)? {
+        0 => return Ok(Next::End),
+        4 => {}
+        _ => return Ok(Next::CutOff),
     }
+    let len = records::number_at(&length, 0) as usize;
+    if most < len {
+        return Ok(Next::CutOff);
+    }
+    let mut record = Vec::new(alloc);
+    if file.take(len as u64).read_to_end(&mut record)? == len {
+        Ok(Next::Record(record))
+    } else {
+        Ok(Next::CutOff)
+    }
+}
 
-    // Prints the last group, and closes the file.
-    pub fn close(self, rt: &impl Print) -> io::Result<()> {
-        self.print(rt)
+// Runs the pages of pages.bin. `is_right` says whether what the call of a page returns and leaves is what its record gives.
+// The turns are bounded by a number that no file uses up, since nothing says that a file ends.
+pub fn run<R: Print + Files<File = File>, F: Fn(Record<'_>) -> Result<bool, Fault>>(
+    rt: &R,
+    alloc: Global,
+    most: usize,
+    is_right: F,
+) -> io::Result<()>
+    requires { F.IsAlwaysCallable is_right }
+{
+    let mut file = File::open(rt, "pages.bin")?;
+    let mut group = Group {
+        pages: 0,
+        wrong: Some(0),
+    };
+    for _ in 0..u64::MAX {
+        match read_next(&mut file, alloc, most)? {
+            Next::Record(bytes) => group = group.after(rt, Record(&bytes), &is_right)?,
+            Next::CutOff => {
+                println!(rt; "\nthe file ends within a record")?;
+                break;
+            }
+            Next::End => break,
+        }
     }
+    group.print(rt)
 }

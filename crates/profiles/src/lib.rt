@@ -1,0 +1,201 @@
+// The seven calls that every profile has, and whether what each returns and leaves is what the record of a page gives.
+#![tactic(auto)]
+
+ghost use Rattle.std.specs.Prelude.{◌≡◌, ◌==◌, ◌↔◌, IsTrue, MatchResult, if◌then◌else◌, ⊤};
+
+use records::{Buffers, Code, Fault, Page, Piece, Profile, Record, Step, Symbol};
+use std::alloc::Global;
+use tally::Tally;
+
+// What a call answers: what it hands back, or the number of its refusal.
+pub type Answer<T> = Result<T, u32>;
+
+// The answer of a call that returns a number and hands back a value.
+pub fn answer<T: Drop>(number: u32, value: T) -> Answer<T>
+    ensures { result ≡ (if number == 0 then Ok value else Err number) }
+{
+    if number == 0 { Ok(value) } else { Err(number) }
+}
+
+// Why a visit would leave a symbol, or that it would change it: the ground, the vote, and the estimates that equal the leader.
+#[derive(Clone, Copy, Debug, Default, PartialEq, Eq)]
+pub struct Explanation {
+    pub ground: u32,
+    pub leader: u32,
+    pub lead: u32,
+    pub next: u32,
+    pub bits: u64,
+}
+
+// The buffers of an opened page, for a call that only reads them.
+#[derive(Drop)]
+pub struct State<S> {
+    pub result: Vec<S>,
+    pub syndrome: Vec<S>,
+    pub difference: Vec<S>,
+}
+
+// The calls of a profile. A value has the numbers that they take before k.
+pub trait Calls: Drop {
+    type Symbol: Symbol;
+
+    const PROFILE: Profile;
+
+    // Those of a page.
+    fn read(page: &mut Page<'_>) -> Result<Self, Fault>;
+
+    fn check_table(&self, code: &Code) -> Answer<()>;
+
+    fn encode(
+        &self,
+        code: &Code,
+        symbols: &[Self::Symbol],
+        page: &mut [Self::Symbol],
+    ) -> Answer<()>;
+
+    fn syndrome(&self, code: &Code, page: &[Self::Symbol], s: &mut [Self::Symbol]) -> Answer<()>;
+
+    fn decode(
+        &self,
+        code: &Code,
+        page: &[Self::Symbol],
+        thresholds: &[u8],
+        buffers: &mut Buffers<'_, Self::Symbol>,
+        margins: &mut [i32],
+    ) -> Answer<Tally>;
+
+    fn open(
+        &self,
+        code: &Code,
+        page: &[Self::Symbol],
+        buffers: &mut Buffers<'_, Self::Symbol>,
+    ) -> Answer<()>;
+
+    // Hands back the changes.
+    fn pass(
+        &self,
+        code: &Code,
+        threshold: u32,
+        buffers: &mut Buffers<'_, Self::Symbol>,
+    ) -> Answer<u32>;
+
+    fn explain(
+        &self,
+        code: &Code,
+        threshold: u32,
+        symbol: u32,
+        state: &State<Self::Symbol>,
+    ) -> Answer<Explanation>;
+}
+
+// Does the call return the number that the page gives, 0 where it is done?
+pub fn returns<T: Copy + Drop>(page: Page<'_>, answer: Answer<T>) -> bool
+    ensures { MatchResult answer (λ _. IsTrue result ↔ (page.entry.returned ≡ 0))
+        (λ number. IsTrue result ↔ (page.entry.returned ≡ number)) }
+{
+    page.returned == answer.err().unwrap_or(0)
+}
+
+// Encode or syndrome, or another call that takes one input and fills one output.
+pub fn fills<S: Symbol, F: FnOnce(&[S], &mut [S]) -> Answer<()>>(
+    mut page: Page<'_>,
+    call: F,
+) -> Result<bool, Fault>
+    requires { F.IsAlwaysCallable call }
+{
+    let input = page.symbols::<S>()?;
+    let mut output = page.lend::<S>()?;
+    page.end()?;
+    let answer = call(&input, &mut output.memory);
+    Ok(returns(page, answer) && output.is_due())
+}
+
+// Decode, or another call that takes what it takes.
+pub fn decodes<S: Symbol, F: FnOnce(&[S], &[u8], &mut Buffers<'_, S>, &mut [i32]) -> Answer<Tally>>(
+    mut page: Page<'_>,
+    call: F,
+) -> Result<bool, Fault>
+    requires { F.IsAlwaysCallable call }
+{
+    let received = page.symbols::<S>()?;
+    let thresholds = page.string()?;
+    let mut buffers = page.lend_buffers::<S>()?;
+    let mut margins = page.lend_margins()?;
+    let counts = page.string()?;
+    page.end()?;
+    let answer = call(
+        &received,
+        thresholds.content,
+        &mut buffers,
+        &mut margins.memory,
+    );
+    Ok(returns(page, answer) && buffers.are_due() && margins.is_due() && counts_are(counts, answer))
+}
+
+// The four counts that a decode hands back, zeros where it is refused.
+pub fn counts_are(counts: Piece<'_>, answer: Answer<Tally>) -> bool {
+    let tally = answer.unwrap_or(Tally::opened(0));
+    counts.holds(&[tally.passes, tally.changes, tally.start, tally.end])
+}
+
+// The changes that a pass hands back, or 0.
+fn passes<C: Calls>(calls: &C, code: &Code, mut page: Page<'_>) -> Result<bool, Fault> {
+    let threshold = page.number()?;
+    let mut buffers = page.hold_buffers::<C::Symbol>()?;
+    let changes = page.string()?;
+    page.end()?;
+    let answer = calls.pass(code, threshold, &mut buffers);
+    Ok(returns(page, answer) && buffers.are_due() && changes.holds(&[answer.unwrap_or(0)]))
+}
+
+// Open, which takes a page and fills the buffers.
+fn opens<C: Calls>(calls: &C, code: &Code, mut page: Page<'_>) -> Result<bool, Fault> {
+    let received = page.symbols::<C::Symbol>()?;
+    let mut buffers = page.lend_buffers::<C::Symbol>()?;
+    page.end()?;
+    let answer = calls.open(code, &received, &mut buffers);
+    Ok(returns(page, answer) && buffers.are_due())
+}
+
+// The answer that an explanation hands back, its bits as two numbers, or zeros.
+fn explains<C: Calls>(calls: &C, code: &Code, mut page: Page<'_>) -> Result<bool, Fault> {
+    let threshold = page.number()?;
+    let symbol = page.number()?;
+    let state = State {
+        result: page.symbols()?,
+        syndrome: page.symbols()?,
+        difference: page.symbols()?,
+    };
+    let due = page.string()?;
+    page.end()?;
+    let answer = calls.explain(code, threshold, symbol, &state);
+    let told = answer.unwrap_or_default();
+    let low = (told.bits & 0xffff_ffff) as u32;
+    let high = (told.bits >> 32) as u32;
+    Ok(
+        returns(page, answer)
+            && due.holds(&[told.ground, told.leader, told.lead, told.next, low, high]),
+    )
+}
+
+// Does the call of a page return and leave what its record gives?
+pub fn is_right<C: Calls>(record: Record<'_>, alloc: Global) -> Result<bool, Fault> {
+    let step = record.step(C::PROFILE)?;
+    let mut page = record.page(alloc)?;
+    let calls = C::read(&mut page)?;
+    let code = page.code()?;
+    match step {
+        Step::CheckTable => {
+            page.end()?;
+            Ok(returns(page, calls.check_table(&code)))
+        }
+        Step::Encode => fills(page, |symbols, out| calls.encode(&code, symbols, out)),
+        Step::Syndrome => fills(page, |received, s| calls.syndrome(&code, received, s)),
+        Step::Decode => decodes(page, |received, thresholds, buffers, margins| {
+            calls.decode(&code, received, thresholds, buffers, margins)
+        }),
+        Step::Open => opens(&calls, &code, page),
+        Step::Pass => passes(&calls, &code, page),
+        Step::Explain => explains(&calls, &code, page),
+    }
+}

@@ -1,9 +1,0 @@
--- `read_full`: the bytes read are no more than the buffer's, and what is left of it is the measure.
-use Rattle.std.proofs.Common.{length, ◌-◌, ◌≤◌}
-use Rattle.runs.proofs.read_full.Given as goal
-
-abbrev pub invariant-loop-at : goal.invariant-loop-at
-invariant-loop-at g l = l.at ≤ length l.buf
-
-abbrev pub decreases-loop-at : goal.decreases-loop-at
-decreases-loop-at g l = length l.initial.buf - l.at
