@@ -2,20 +2,24 @@
 // profile.
 #![tactic(auto)]
 
-ghost use Rattle.std.specs.Prelude.{◌≡◌, true};
+ghost use Rattle.std.specs.Prelude.{◌≡◌, true, OnOk};
+ghost use Rattle.std.specs.Result.{result_unwrap_or};
 ghost use Rattle.model.specs.Code.{bit_pages, code_in};
 ghost use Rattle.model.specs.Decoder.{state_by};
 ghost use Rattle.model.specs.Calls.{table_answer, encode_outcome, syndrome_outcome, open_outcome, decode_outcome, pass_outcome, explain_outcome};
 ghost use Rattle.model.specs.Demand.{Encodes, DecodeFalls, DecodeRecovers, PassFalls};
+ghost use Rattle.explainer.specs.Explained.{explained_of};
+ghost use Rattle.refusals.specs.Numbers.{answer};
+ghost use Rattle.tally.specs.Counts.{counts_in};
 
-pub use explainer::Explained;
+pub use explainer::Told;
 use params::Params;
-pub use passing::Passed;
-pub use tally::Decoded;
+pub use refusals::Refusal;
+pub use tally::Tally;
 
 // Checks a code table.
-pub fn check_table(q: u32, k: u32, b: u32, positions: &[u16]) -> u32
-    ensures { result ≡ table_answer (code_in bit_pages q k b positions.now) }
+pub fn check_table(q: u32, k: u32, b: u32, positions: &[u16]) -> Result<(), Refusal>
+    ensures { answer result ≡ table_answer (code_in bit_pages q k b positions.now) }
 {
     let code = Params {
         q,
@@ -27,17 +31,31 @@ pub fn check_table(q: u32, k: u32, b: u32, positions: &[u16]) -> u32
 }
 
 // Writes the page of the data.
-pub fn encode(q: u32, k: u32, b: u32, positions: &[u16], data: &[u8], page: &mut [u8]) -> u32
-    ensures outcome { record { number = result; left = page.new }
+pub fn encode(
+    q: u32,
+    k: u32,
+    b: u32,
+    positions: &[u16],
+    data: &[u8],
+    page: &mut [u8],
+) -> Result<(), Refusal>
+    ensures outcome { record { number = answer result; left = page.new }
         ≡ encode_outcome (code_in bit_pages q k b positions.now) «data».now page.old }
-    ensures word { result ≡ 0 → Encodes (code_in bit_pages q k b positions.now) «data».now page.new }
+    ensures word { OnOk result (Encodes (code_in bit_pages q k b positions.now) «data».now page.new) }
 {
     page::encode_in(true, q, k, b, positions, data, page)
 }
 
 // Writes the syndrome of a page.
-pub fn syndrome(q: u32, k: u32, b: u32, positions: &[u16], page: &[u8], s: &mut [u8]) -> u32
-    ensures { record { number = result; left = s.new }
+pub fn syndrome(
+    q: u32,
+    k: u32,
+    b: u32,
+    positions: &[u16],
+    page: &[u8],
+    s: &mut [u8],
+) -> Result<(), Refusal>
+    ensures { record { number = answer result; left = s.new }
         ≡ syndrome_outcome (code_in bit_pages q k b positions.now) page.now s.old }
 {
     page::syndrome_in(true, q, k, b, positions, page, s)
@@ -55,19 +73,19 @@ pub fn decode(
     syndrome: &mut [u8],
     difference: &mut [u8],
     margins: &mut [i32],
-) -> Decoded
+) -> Result<Tally, Refusal>
     ensures outcome { record {
-      number = result.number;
+      number = answer result;
       left = record {
         state = state_by res.new syndrome.new difference.new;
         margins = margins.new;
-        counts = record { passes = result.tally.passes; changes = result.tally.changes; start = result.tally.start; end = result.tally.end };
+        counts = counts_in result;
       };
     } ≡ decode_outcome (code_in bit_pages q k b positions.now) true page.now thresholds.now
         (state_by res.old syndrome.old difference.old) margins.old }
-    ensures falling { result.number ≡ 0 → DecodeFalls (code_in bit_pages q k b positions.now) thresholds.now page.now
-        (record { passes = result.tally.passes; changes = result.tally.changes; start = result.tally.start; end = result.tally.end }) }
-    ensures recovery { result.number ≡ 0 → DecodeRecovers (code_in bit_pages q k b positions.now) thresholds.now page.now
+    ensures falling { answer result ≡ 0 → DecodeFalls (code_in bit_pages q k b positions.now) thresholds.now page.now
+        (counts_in result) }
+    ensures recovery { answer result ≡ 0 → DecodeRecovers (code_in bit_pages q k b positions.now) thresholds.now page.now
         res.new }
 {
     let mut none = [0u8; 0];
@@ -87,8 +105,8 @@ pub fn open(
     res: &mut [u8],
     syndrome: &mut [u8],
     difference: &mut [u8],
-) -> u32
-    ensures { record { number = result; left = state_by res.new syndrome.new difference.new }
+) -> Result<(), Refusal>
+    ensures { record { number = answer result; left = state_by res.new syndrome.new difference.new }
         ≡ open_outcome (code_in bit_pages q k b positions.now) page.now
         (state_by res.old syndrome.old difference.old) }
 {
@@ -105,14 +123,14 @@ pub fn pass(
     res: &mut [u8],
     syndrome: &mut [u8],
     difference: &mut [u8],
-) -> Passed
+) -> Result<u32, Refusal>
     ensures outcome { record {
-      number = result.number;
-      left = record { state = state_by res.new syndrome.new difference.new; changes = result.changes };
+      number = answer result;
+      left = record { state = state_by res.new syndrome.new difference.new; changes = result_unwrap_or result 0 };
     } ≡ pass_outcome (code_in bit_pages q k b positions.now) true threshold
         (state_by res.old syndrome.old difference.old) }
-    ensures falling { result.number ≡ 0 → PassFalls (code_in bit_pages q k b positions.now) threshold
-        (state_by res.old syndrome.old difference.old) }
+    ensures falling { OnOk result (PassFalls (code_in bit_pages q k b positions.now) threshold
+        (state_by res.old syndrome.old difference.old)) }
 {
     passing::pass_in(
         true, q, k, b, positions, threshold, res, syndrome, difference,
@@ -130,11 +148,8 @@ pub fn explain(
     res: &[u8],
     syndrome: &[u8],
     difference: &[u8],
-) -> Explained
-    ensures { record {
-      number = result.number;
-      left = record { ground_number = result.ground; leader = result.leader; lead = result.lead; next = result.next; bits = result.bits };
-    } ≡ explain_outcome (code_in bit_pages q k b positions.now) true threshold symbol
+) -> Result<Told, Refusal>
+    ensures { record { number = answer result; left = explained_of result } ≡ explain_outcome (code_in bit_pages q k b positions.now) true threshold symbol
         (state_by res.now syndrome.now difference.now) }
 {
     let code = Params {
