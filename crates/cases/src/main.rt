@@ -1,6 +1,7 @@
 // Runs the 14 worked cases of document 01 and prints what the calls give. Each line starts with the number of its case.
 #![tactic(auto)]
 
+use refusals::{Refusal, answer};
 use std::{fmt, io};
 use tally::Tally;
 
@@ -21,15 +22,22 @@ const A: Code<'static> = Code {
 // The calls. Those that answer with a number alone return it.
 impl Code<'_> {
     fn check_table(self) -> u32 {
-        table::check_table(self.q, self.k, 1, self.positions)
+        answer(table::check_table(self.q, self.k, 1, self.positions))
     }
 
     fn encode(self, symbols: &[u8], page: &mut [u8]) -> u32 {
-        page::encode(self.q, self.k, 1, self.positions, symbols, page)
+        answer(page::encode(
+            self.q,
+            self.k,
+            1,
+            self.positions,
+            symbols,
+            page,
+        ))
     }
 
     fn syndrome(self, page: &[u8], s: &mut [u8]) -> u32 {
-        page::syndrome(self.q, self.k, 1, self.positions, page, s)
+        answer(page::syndrome(self.q, self.k, 1, self.positions, page, s))
     }
 
     fn decode(self, page: &[u8], thresholds: &[u8]) -> Decode {
@@ -50,8 +58,7 @@ impl Code<'_> {
             &mut margins,
         );
         Decode {
-            number: got.number,
-            tally: got.tally,
+            got,
             result,
             s,
             d,
@@ -62,11 +69,21 @@ impl Code<'_> {
 // What a decode returns and leaves.
 #[derive(Clone, Copy)]
 struct Decode {
-    number: u32,
-    tally: Tally,
+    got: Result<Tally, Refusal>,
     result: [u8; 13],
     s: [u8; 13],
     d: [u8; 13],
+}
+
+impl Decode {
+    fn number(&self) -> u32 {
+        answer(self.got.map(|_| ()))
+    }
+
+    // Zeros where it is refused.
+    fn tally(&self) -> Tally {
+        self.got.unwrap_or(Tally::opened(0))
+    }
 }
 
 // Symbols on a line, a space before each.
@@ -128,7 +145,7 @@ fn encodings(rt: &impl Print) -> io::Result<()> {
 // Cases 6 to 10: a page received with code A. Case 7 is that of request N4, with thresholds 3, 2 and with 3, 3, 2.
 fn show_decode(rt: &impl Print, case: u32, page: &[u8], thresholds: &[u8]) -> io::Result<()> {
     let got = A.decode(page, thresholds);
-    println!(rt; "{case}: decode: {}", got.number)?;
+    println!(rt; "{case}: decode: {}", got.number())?;
     println!(rt; "{case}: result:{}", Symbols(&got.result))?;
     println!(rt; "{case}: S:{}", Symbols(&got.s))?;
     println!(rt; "{case}: D:{}", Symbols(&got.d))?;
@@ -137,7 +154,7 @@ fn show_decode(rt: &impl Print, case: u32, page: &[u8], thresholds: &[u8]) -> io
         changes,
         start,
         end,
-    } = got.tally;
+    } = got.tally();
     println!(rt; "{case}: counts: {passes} {changes} {start} {end}")
 }
 
@@ -182,7 +199,7 @@ fn show_numbers(
     print!(rt; " {}", code.check_table())?;
     print!(rt; " {}", code.encode(symbols, encoded))?;
     print!(rt; " {}", code.syndrome(page, &mut s))?;
-    println!(rt; " {}", code.decode(page, &[0]).number)
+    println!(rt; " {}", code.decode(page, &[0]).number())
 }
 
 // Cases 11 and 12: data and a page that hold a symbol.
@@ -224,15 +241,15 @@ fn limits_of_thresholds(rt: &impl Print) -> io::Result<()> {
     let list = [0u8; 65];
     println!(rt;
         "13: 64 thresholds: {}",
-        code.decode(&page, &list[..64]).number
+        code.decode(&page, &list[..64]).number()
     )?;
-    println!(rt; "13: 65 thresholds: {}", code.decode(&page, &list).number)?;
-    println!(rt; "13: threshold 32: {}", code.decode(&page, &[32]).number)?;
-    println!(rt; "13: threshold 33: {}", code.decode(&page, &[33]).number)?;
+    println!(rt; "13: 65 thresholds: {}", code.decode(&page, &list).number())?;
+    println!(rt; "13: threshold 32: {}", code.decode(&page, &[32]).number())?;
+    println!(rt; "13: threshold 33: {}", code.decode(&page, &[33]).number())?;
     page[3] = 5;
     println!(rt;
         "13: no thresholds, symbol 5: {}",
-        code.decode(&page, &[]).number
+        code.decode(&page, &[]).number()
     )
 }
 
@@ -245,7 +262,7 @@ fn show_votes(rt: &impl Print, page: &[u8], limit: u8) -> io::Result<()> {
     println!(rt; "14: S:{}", Symbols(&s))?;
     print!(rt; "14: changes:")?;
     for t in 0..limit {
-        print!(rt; " {}", A.decode(page, &[t]).tally.changes)?;
+        print!(rt; " {}", A.decode(page, &[t]).tally().changes)?;
     }
     println!(rt)
 }

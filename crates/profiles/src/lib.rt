@@ -1,31 +1,17 @@
 // The seven calls that every profile has, and whether what each returns and leaves is what the record of a page gives.
 #![tactic(auto)]
 
-ghost use Rattle.std.specs.Prelude.{◌≡◌, ◌==◌, ◌↔◌, IsTrue, MatchResult, if◌then◌else◌, ⊤};
+ghost use Rattle.std.specs.Prelude.{◌≡◌, ◌↔◌, IsTrue, ⊤};
+ghost use Rattle.refusals.specs.Numbers.{answer};
 
+use grounds::Told;
 use records::{Buffers, Code, Fault, Page, Piece, Profile, Record, Step, Symbol};
+use refusals::Refusal;
 use std::alloc::Global;
 use tally::Tally;
 
-// What a call answers: what it hands back, or the number of its refusal.
-pub type Answer<T> = Result<T, u32>;
-
-// The answer of a call that returns a number and hands back a value.
-pub fn answer<T: Drop>(number: u32, value: T) -> Answer<T>
-    ensures { result ≡ (if number == 0 then Ok value else Err number) }
-{
-    if number == 0 { Ok(value) } else { Err(number) }
-}
-
-// Why a visit would leave a symbol, or that it would change it: the ground, the vote, and the estimates that equal the leader.
-#[derive(Clone, Copy, Debug, Default, PartialEq, Eq)]
-pub struct Explanation {
-    pub ground: u32,
-    pub leader: u32,
-    pub lead: u32,
-    pub next: u32,
-    pub bits: u64,
-}
+// What a call answers: what it hands back, or why it is refused.
+pub type Answer<T> = Result<T, Refusal>;
 
 // The buffers of an opened page, for a call that only reads them.
 #[derive(Drop)]
@@ -85,15 +71,17 @@ pub trait Calls: Drop {
         threshold: u32,
         symbol: u32,
         state: &State<Self::Symbol>,
-    ) -> Answer<Explanation>;
+    ) -> Answer<Told>;
 }
 
-// Does the call return the number that the page gives, 0 where it is done?
-pub fn returns<T: Copy + Drop>(page: Page<'_>, answer: Answer<T>) -> bool
-    ensures { MatchResult answer (λ _. IsTrue result ↔ (page.entry.returned ≡ 0))
-        (λ number. IsTrue result ↔ (page.entry.returned ≡ number)) }
+// Does the call answer with the number that the page gives, 0 where it is done?
+pub fn returns<T: Copy + Drop>(page: Page<'_>, got: Answer<T>) -> bool
+    ensures { IsTrue result ↔ (page.entry.returned ≡ answer got) }
 {
-    page.returned == answer.err().unwrap_or(0)
+    match got {
+        Ok(_) => page.returned == 0,
+        Err(refusal) => page.returned == u32::from(refusal),
+    }
 }
 
 // Encode or syndrome, or another call that takes one input and fills one output.
@@ -169,13 +157,12 @@ fn explains<C: Calls>(calls: &C, code: &Code, mut page: Page<'_>) -> Result<bool
     let due = page.string()?;
     page.end()?;
     let answer = calls.explain(code, threshold, symbol, &state);
-    let told = answer.unwrap_or_default();
-    let low = (told.bits & 0xffff_ffff) as u32;
-    let high = (told.bits >> 32) as u32;
-    Ok(
-        returns(page, answer)
-            && due.holds(&[told.ground, told.leader, told.lead, told.next, low, high]),
-    )
+    let numbers = answer.map_or([0; 6], |told| {
+        let low = (told.bits & 0xffff_ffff) as u32;
+        let high = (told.bits >> 32) as u32;
+        [told.ground_number, told.leader, told.lead, told.next, low, high]
+    });
+    Ok(returns(page, answer) && due.holds(&numbers))
 }
 
 // Does the call of a page return and leave what its record gives?

@@ -2,7 +2,8 @@
 // for each group how many there are and how many came out wrong.
 #![tactic(auto)]
 
-use profiles::{Answer, Calls, Explanation, State, answer};
+use grounds::Told;
+use profiles::{Answer, Calls, State};
 use records::{Buffers, Code, Fault, Page, Profile};
 use runs::MOST_RECORD;
 use std::io;
@@ -24,24 +25,15 @@ impl Calls for Bytes {
     }
 
     fn check_table(&self, code: &Code) -> Answer<()> {
-        answer(
-            table::check_table(self.q, code.k, code.b, &code.positions),
-            (),
-        )
+        table::check_table(self.q, code.k, code.b, &code.positions)
     }
 
     fn encode(&self, code: &Code, symbols: &[u8], page: &mut [u8]) -> Answer<()> {
-        answer(
-            page::encode(self.q, code.k, code.b, &code.positions, symbols, page),
-            (),
-        )
+        page::encode(self.q, code.k, code.b, &code.positions, symbols, page)
     }
 
     fn syndrome(&self, code: &Code, page: &[u8], s: &mut [u8]) -> Answer<()> {
-        answer(
-            page::syndrome(self.q, code.k, code.b, &code.positions, page, s),
-            (),
-        )
+        page::syndrome(self.q, code.k, code.b, &code.positions, page, s)
     }
 
     fn decode(
@@ -52,7 +44,7 @@ impl Calls for Bytes {
         buffers: &mut Buffers<'_, u8>,
         margins: &mut [i32],
     ) -> Answer<Tally> {
-        let got = decoder::decode(
+        decoder::decode(
             self.q,
             code.k,
             code.b,
@@ -63,12 +55,11 @@ impl Calls for Bytes {
             &mut buffers.syndrome.memory,
             &mut buffers.difference.memory,
             margins,
-        );
-        answer(got.number, got.tally)
+        )
     }
 
     fn open(&self, code: &Code, page: &[u8], buffers: &mut Buffers<'_, u8>) -> Answer<()> {
-        let number = opener::open(
+        opener::open(
             self.q,
             code.k,
             code.b,
@@ -77,12 +68,11 @@ impl Calls for Bytes {
             &mut buffers.result.memory,
             &mut buffers.syndrome.memory,
             &mut buffers.difference.memory,
-        );
-        answer(number, ())
+        )
     }
 
     fn pass(&self, code: &Code, threshold: u32, buffers: &mut Buffers<'_, u8>) -> Answer<u32> {
-        let got = passing::pass(
+        passing::pass(
             self.q,
             code.k,
             code.b,
@@ -91,8 +81,7 @@ impl Calls for Bytes {
             &mut buffers.result.memory,
             &mut buffers.syndrome.memory,
             &mut buffers.difference.memory,
-        );
-        answer(got.number, got.changes)
+        )
     }
 
     fn explain(
@@ -101,8 +90,8 @@ impl Calls for Bytes {
         threshold: u32,
         symbol: u32,
         state: &State<u8>,
-    ) -> Answer<Explanation> {
-        let got = explainer::explain(
+    ) -> Answer<Told> {
+        explainer::explain(
             self.q,
             code.k,
             code.b,
@@ -112,15 +101,7 @@ impl Calls for Bytes {
             &state.result,
             &state.syndrome,
             &state.difference,
-        );
-        let told = Explanation {
-            ground: got.ground,
-            leader: got.leader,
-            lead: got.lead,
-            next: got.next,
-            bits: got.bits,
-        };
-        answer(got.number, told)
+        )
     }
 }
 

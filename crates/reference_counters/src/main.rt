@@ -2,7 +2,7 @@
 // came out wrong.
 #![tactic(auto)]
 
-use profiles::{Answer, answer, counts_are, returns};
+use profiles::{Answer, counts_are, returns};
 use records::{Buffers, Call, Code, Fault, Record};
 use runs::MOST_RECORD;
 use std::alloc::Global;
@@ -18,7 +18,7 @@ fn decode(
     margins: &mut [i32],
     counters: &mut [u8],
 ) -> Answer<Tally> {
-    let got = decoder::decode_counters(
+    decoder::decode_counters(
         q,
         code.k,
         code.b,
@@ -30,8 +30,7 @@ fn decode(
         &mut buffers.difference.memory,
         margins,
         counters,
-    );
-    answer(got.number, got.tally)
+    )
 }
 
 // Is what the call returns and leaves what its record gives? The counters are lent as the record gives them.

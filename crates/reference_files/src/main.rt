@@ -4,6 +4,7 @@
 
 ghost use Rattle.std.specs.Prelude.{◌≤◌, vec_len, IfOk};
 
+use profiles::returns;
 use records::{Call, Fault, Item, Page, Piece, Record, number_at};
 use std::alloc::{AllocError, Global};
 use std::io;
@@ -29,9 +30,10 @@ fn find_is_right(mut page: Page<'_>) -> Result<bool, Fault> {
     let entry = page.string()?;
     page.end()?;
     let got = file_reader::find(file, place);
+    let found = got.map_or([0; 4], |f| [f.number, f.top, f.offset, f.size]);
     Ok(
-        got.answer == page.returned
-            && entry.holds(&[got.number, got.top, got.offset, got.size])
+        returns(page, got)
+            && entry.holds(&found)
             && body_is_due(file, place, entry.written(2), entry.written(3)),
     )
 }
@@ -80,10 +82,10 @@ fn write_is_right(mut page: Page<'_>, alloc: Global) -> Result<bool, Fault> {
     }
     let got = file_writer::write(&numbers, tops, &lengths, bodies, &mut output.memory);
     Ok(
-        got.number == page.returned
+        returns(page, got)
             && output.is_due()
             && length.len == 4
-            && length.written(0) as usize == got.length,
+            && length.written(0) as usize == got.unwrap_or(0),
     )
 }
 

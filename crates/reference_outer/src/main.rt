@@ -2,7 +2,7 @@
 // and how many came out wrong.
 #![tactic(auto)]
 
-use profiles::{answer, decodes, fills};
+use profiles::{decodes, fills};
 use records::{Call, Code, Fault, Page, Record};
 use runs::MOST_RECORD;
 use std::alloc::Global;
@@ -11,7 +11,7 @@ use std::io;
 // Is what the call returns and leaves what its record gives? A function for each call, which takes the block length.
 fn encode_is_right(q: u32, code: &Code, block: u32, page: Page<'_>) -> Result<bool, Fault> {
     fills(page, |symbols, out| {
-        let number = outer_page::encode_outer(
+        outer_page::encode_outer(
             q,
             code.k,
             code.b,
@@ -19,14 +19,13 @@ fn encode_is_right(q: u32, code: &Code, block: u32, page: Page<'_>) -> Result<bo
             block,
             symbols,
             out,
-        );
-        answer(number, ())
+        )
     })
 }
 
 fn decode_is_right(q: u32, code: &Code, block: u32, page: Page<'_>) -> Result<bool, Fault> {
     decodes(page, |received, thresholds, buffers, margins| {
-        let got = outer_decoder::decode_outer(
+        outer_decoder::decode_outer(
             q,
             code.k,
             code.b,
@@ -38,8 +37,7 @@ fn decode_is_right(q: u32, code: &Code, block: u32, page: Page<'_>) -> Result<bo
             &mut buffers.syndrome.memory,
             &mut buffers.difference.memory,
             margins,
-        );
-        answer(got.number, got.tally)
+        )
     })
 }
 
