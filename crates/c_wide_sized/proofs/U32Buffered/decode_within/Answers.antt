@@ -1,0 +1,16 @@
+-- Buffers of N are large enough.
+use Rattle.std.proofs.Common.{ℕ, ◌≤◌, length, replicate, length-take-le, ◌∙◌, mul-le-mul_right, arith}
+use Rattle.std.proofs.lemmas.List.{length-replicate}
+use Rattle.theory.specs.Counters.{clear_made, clear_front}
+use Rattle.c_wide_sized.proofs.U32Buffered.decode_within.Goals as goal
+
+pub decode_in-requires : goal.decode_in-requires
+decode_in-requires g c =
+    let p = c.requires in
+    let k = c.args.code.k in
+    let e = c.data_count-n.ensures in
+    let size = length-replicate {A = ℕ} g.row.N 0 in
+    let few : c.data_count-n.result ≤ length (replicate {A = ℕ} g.row.N 0) = omega (arith, e, size, p.2) in
+    let checks : k ≤ length (replicate {A = ℕ} g.row.N 0) = omega (arith, size, mul-le-mul_right k p.1.taken.opens.usable.table.sizes.b_low, p.2) in
+    let n = length-take-le _ _ few ∙ e in
+    (p.1, n, clear_front c.data_count-n.result _ (clear_made g.row.N), n, n, length-take-le _ _ checks, n)
