@@ -1,0 +1,116 @@
+// The calls on wide symbols as a profile of reference pages, for either width.
+#![tactic(auto)]
+
+use grounds::Told;
+use profiles::{Answer, Calls, State};
+use records::{Buffers, Code, Fault, Page, Profile, Symbol};
+use std::marker::PhantomData;
+use tally::Tally;
+use wide_symbols::WideSymbol;
+
+// A wide symbol of which there are reference pages.
+pub trait Width: WideSymbol + Symbol {
+    const PROFILE: Profile;
+}
+
+impl Width for u16 {
+    const PROFILE: Profile = Profile::U16;
+}
+
+impl Width for u32 {
+    const PROFILE: Profile = Profile::U32;
+}
+
+// The calls on symbols of a width, which take no q.
+#[derive(Drop)]
+pub struct Wide<S> {
+    symbols: PhantomData<S>,
+}
+
+impl<S: Width> Calls for Wide<S> {
+    type Symbol = S;
+
+    const PROFILE: Profile = S::PROFILE;
+
+    fn read(_page: &mut Page<'_>) -> Result<Wide<S>, Fault> {
+        Ok(Wide {
+            symbols: PhantomData,
+        })
+    }
+
+    fn check_table(&self, code: &Code) -> Answer<()> {
+        wide_page::check_table::<S>(code.k, code.b, &code.positions)
+    }
+
+    fn encode(&self, code: &Code, symbols: &[S], page: &mut [S]) -> Answer<()> {
+        wide_page::encode(code.k, code.b, &code.positions, symbols, page)
+    }
+
+    fn syndrome(&self, code: &Code, page: &[S], s: &mut [S]) -> Answer<()> {
+        wide_page::syndrome(code.k, code.b, &code.positions, page, s)
+    }
+
+    fn decode(
+        &self,
+        code: &Code,
+        page: &[S],
+        thresholds: &[u8],
+        buffers: &mut Buffers<'_, S>,
+        margins: &mut [i32],
+    ) -> Answer<Tally> {
+        wide_decoder::decode(
+            code.k,
+            code.b,
+            &code.positions,
+            page,
+            thresholds,
+            &mut buffers.result.memory,
+            &mut buffers.syndrome.memory,
+            &mut buffers.difference.memory,
+            margins,
+        )
+    }
+
+    fn open(&self, code: &Code, page: &[S], buffers: &mut Buffers<'_, S>) -> Answer<()> {
+        wide_page::open(
+            code.k,
+            code.b,
+            &code.positions,
+            page,
+            &mut buffers.result.memory,
+            &mut buffers.syndrome.memory,
+            &mut buffers.difference.memory,
+        )
+    }
+
+    fn pass(&self, code: &Code, threshold: u32, buffers: &mut Buffers<'_, S>) -> Answer<u32> {
+        wide_passing::pass(
+            code.k,
+            code.b,
+            &code.positions,
+            threshold,
+            &mut buffers.result.memory,
+            &mut buffers.syndrome.memory,
+            &mut buffers.difference.memory,
+        )
+    }
+
+    fn explain(
+        &self,
+        code: &Code,
+        threshold: u32,
+        symbol: u32,
+        state: &State<S>,
+    ) -> Answer<Told> {
+        wide_explainer::explain(
+            code.k,
+            code.b,
+            &code.positions,
+            threshold,
+            symbol,
+            &state.result,
+            &state.syndrome,
+            &state.difference,
+        )
+    }
+}
