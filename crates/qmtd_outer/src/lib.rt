@@ -1,4 +1,4 @@
-// The C calls on pages in blocks, each with an outer check, exported: each is the function of its C form.
+// The C calls on pages in blocks, each with an outer check, exported: each is the function of its C form, and C gets the number of its answer.
 #![tactic(auto)]
 
 ghost use Rattle.std.specs.Prelude.{◌≡◌};
@@ -24,7 +24,7 @@ pub extern "C" fn qmtd_encode_outer(
         ≡ encode_outer_outcome (code_of q k b (positions_of table.now)) block «data».now page.old }
     ensures word { result ≡ 0 → EncodesOuter (code_of q k b (positions_of table.now)) block «data».now page.new }
 {
-    c_outer_page::encode_outer(q, k, b, table, block, data, page)
+    refusals::answer(c_outer_page::encode_outer(q, k, b, table, block, data, page))
 }
 
 // Decodes a page whose data was sent in blocks with an outer check.
@@ -57,7 +57,7 @@ pub extern "C" fn qmtd_decode_outer(
     ensures recovery { result ≡ 0 → OuterRecovers (code_of q k b (positions_of table.now)) block thresholds.now page.now res.new
         (outer_counts (code_of q k b (positions_of table.now)) block thresholds.now page.now) }
 {
-    c_outer::decode_outer(
+    refusals::answer(c_outer::decode_outer(
         q, k, b, table, block, page, thresholds, res, syndrome, difference, margins, counts,
-    )
+    ))
 }
