@@ -1,4 +1,4 @@
-// The C calls on pages of bytes, exported: each is the function of its C form.
+// The C calls on pages of bytes, exported: each is the function of its C form, and C gets the number of its answer.
 #![tactic(auto)]
 
 ghost use Rattle.std.specs.Prelude.{◌≡◌, true};
@@ -21,7 +21,7 @@ pub extern "C" fn qmtd_version() -> u32
 pub extern "C" fn qmtd_check_table(q: u32, k: u32, b: u32, table: &[u8]) -> u32
     ensures { result ≡ table_answer (code_of q k b (positions_of table.now)) }
 {
-    c_page::check_table(false, q, k, b, table)
+    refusals::answer(c_page::check_table(false, q, k, b, table))
 }
 
 // Encodes data into a page.
@@ -38,7 +38,7 @@ pub extern "C" fn qmtd_encode(
         ≡ encode_outcome (code_of q k b (positions_of table.now)) «data».now page.old }
     ensures word { result ≡ 0 → Encodes (code_of q k b (positions_of table.now)) «data».now page.new }
 {
-    c_page::encode(false, q, k, b, table, data, page)
+    refusals::answer(c_page::encode(false, q, k, b, table, data, page))
 }
 
 // Works out the syndrome of a page.
@@ -54,7 +54,7 @@ pub extern "C" fn qmtd_syndrome(
     ensures { record { number = result; left = syndrome.new }
         ≡ syndrome_outcome (code_of q k b (positions_of table.now)) page.now syndrome.old }
 {
-    c_page::syndrome(false, q, k, b, table, page, syndrome)
+    refusals::answer(c_page::syndrome(false, q, k, b, table, page, syndrome))
 }
 
 // Decodes a page.
@@ -85,9 +85,9 @@ pub extern "C" fn qmtd_decode(
         (decoded_counts (code_of q k b (positions_of table.now)) thresholds.now page.now) }
     ensures recovery { result ≡ 0 → DecodeRecovers (code_of q k b (positions_of table.now)) thresholds.now page.now res.new }
 {
-    c_decoder::decode(
+    refusals::answer(c_decoder::decode(
         false, q, k, b, table, page, thresholds, res, syndrome, difference, margins, counts,
-    )
+    ))
 }
 
 // Opens a page.
@@ -106,7 +106,7 @@ pub extern "C" fn qmtd_open(
         ≡ open_outcome (code_of q k b (positions_of table.now)) page.now
         (state_by res.old syndrome.old difference.old) }
 {
-    c_page::open(false, q, k, b, table, page, res, syndrome, difference)
+    refusals::answer(c_page::open(false, q, k, b, table, page, res, syndrome, difference))
 }
 
 // Makes one pass.
@@ -130,9 +130,9 @@ pub extern "C" fn qmtd_pass(
     ensures falling { result ≡ 0 → PassFalls (code_of q k b (positions_of table.now)) threshold
         (state_by res.old syndrome.old difference.old) }
 {
-    c_passing::pass(
+    refusals::answer(c_passing::pass(
         false, q, k, b, table, threshold, res, syndrome, difference, changes,
-    )
+    ))
 }
 
 // Explains a data symbol.
@@ -153,7 +153,7 @@ pub extern "C" fn qmtd_explain(
         ≡ c_explain_outcome (code_of q k b (positions_of table.now)) threshold symbol
         (state_by res.now syndrome.now difference.now) answer.old }
 {
-    c_explainer::explain(
+    refusals::answer(c_explainer::explain(
         false, q, k, b, table, threshold, symbol, res, syndrome, difference, answer,
-    )
+    ))
 }
