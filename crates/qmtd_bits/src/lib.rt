@@ -1,4 +1,4 @@
-// The C calls on bit pages, exported: each is the function of its C form.
+// The C calls on bit pages, exported: each is the function of its C form, and C gets the number of its answer.
 #![tactic(auto)]
 
 ghost use Rattle.std.specs.Prelude.{◌≡◌, true};
@@ -13,7 +13,7 @@ ghost use Rattle.model.specs.Demand.{Encodes, DecodeFalls, DecodeRecovers, PassF
 pub extern "C" fn qmtd_bits_check_table(q: u32, k: u32, b: u32, table: &[u8]) -> u32
     ensures { result ≡ table_answer (code_in bit_pages q k b (positions_of table.now)) }
 {
-    c_page::check_table(true, q, k, b, table)
+    refusals::answer(c_page::check_table(true, q, k, b, table))
 }
 
 // Encodes data into a page.
@@ -30,7 +30,7 @@ pub extern "C" fn qmtd_bits_encode(
         ≡ encode_outcome (code_in bit_pages q k b (positions_of table.now)) «data».now page.old }
     ensures word { result ≡ 0 → Encodes (code_in bit_pages q k b (positions_of table.now)) «data».now page.new }
 {
-    c_page::encode(true, q, k, b, table, data, page)
+    refusals::answer(c_page::encode(true, q, k, b, table, data, page))
 }
 
 // Works out the syndrome of a page.
@@ -46,7 +46,7 @@ pub extern "C" fn qmtd_bits_syndrome(
     ensures { record { number = result; left = syndrome.new }
         ≡ syndrome_outcome (code_in bit_pages q k b (positions_of table.now)) page.now syndrome.old }
 {
-    c_page::syndrome(true, q, k, b, table, page, syndrome)
+    refusals::answer(c_page::syndrome(true, q, k, b, table, page, syndrome))
 }
 
 // Decodes a page.
@@ -78,9 +78,9 @@ pub extern "C" fn qmtd_bits_decode(
     ensures recovery { result ≡ 0 → DecodeRecovers (code_in bit_pages q k b (positions_of table.now)) thresholds.now page.now
         res.new }
 {
-    c_decoder::decode(
+    refusals::answer(c_decoder::decode(
         true, q, k, b, table, page, thresholds, res, syndrome, difference, margins, counts,
-    )
+    ))
 }
 
 // Opens a page.
@@ -99,7 +99,7 @@ pub extern "C" fn qmtd_bits_open(
         ≡ open_outcome (code_in bit_pages q k b (positions_of table.now)) page.now
         (state_by res.old syndrome.old difference.old) }
 {
-    c_page::open(true, q, k, b, table, page, res, syndrome, difference)
+    refusals::answer(c_page::open(true, q, k, b, table, page, res, syndrome, difference))
 }
 
 // Makes one pass.
@@ -123,9 +123,9 @@ pub extern "C" fn qmtd_bits_pass(
     ensures falling { result ≡ 0 → PassFalls (code_in bit_pages q k b (positions_of table.now)) threshold
         (state_by res.old syndrome.old difference.old) }
 {
-    c_passing::pass(
+    refusals::answer(c_passing::pass(
         true, q, k, b, table, threshold, res, syndrome, difference, changes,
-    )
+    ))
 }
 
 // Explains a data symbol.
@@ -146,7 +146,7 @@ pub extern "C" fn qmtd_bits_explain(
         ≡ c_explain_outcome (code_in bit_pages q k b (positions_of table.now)) threshold symbol
         (state_by res.now syndrome.now difference.now) answer.old }
 {
-    c_explainer::explain(
+    refusals::answer(c_explainer::explain(
         true, q, k, b, table, threshold, symbol, res, syndrome, difference, answer,
-    )
+    ))
 }
