@@ -82,7 +82,7 @@ impl Decode {
 
     // Zeros where it is refused.
     fn tally(&self) -> Tally {
-        self.got.unwrap_or(Tally::opened(0))
+        tally::counts(self.got)
     }
 }
 

@@ -122,7 +122,7 @@ pub fn decodes<S: Symbol, F: FnOnce(&[S], &[u8], &mut Buffers<'_, S>, &mut [i32]
 
 // The four counts that a decode hands back, zeros where it is refused.
 pub fn counts_are(counts: Piece<'_>, answer: Answer<Tally>) -> bool {
-    let tally = answer.unwrap_or(Tally::opened(0));
+    let tally = tally::counts(answer);
     counts.holds(&[tally.passes, tally.changes, tally.start, tally.end])
 }
 

@@ -4,15 +4,13 @@
 ghost use Rattle.std.specs.Prelude.{◌≡◌};
 ghost use Rattle.refusals.specs.Numbers.{number, answer};
 
-// What a call was refused for.
+// What a call was refused for, in the order of the numbers. The tests have 10 after 2.
 #[derive(Clone, Copy, Debug, PartialEq, Eq)]
 pub enum Refusal {
     // q is not one that the call takes.
     Q,
     // k is not from 1 to 4,096.
     K,
-    // b is not from 1 to 8, or b times k is above 4,096.
-    Branches,
     // The table is not b runs of equal length J, from 1 to 32.
     J,
     // A position is k or more, or not above the one before it in its run.
@@ -27,6 +25,8 @@ pub enum Refusal {
     ThresholdCount,
     // A threshold is above 32.
     Threshold,
+    // b is not from 1 to 8, or b times k is above 4,096.
+    Branches,
     // The number of a data symbol is b times k or more.
     SymbolNumber,
     // A block length is below 2, or does not divide b times k.
@@ -46,7 +46,6 @@ impl From<Refusal> for u32 {
         match refusal {
             Refusal::Q => 1,
             Refusal::K => 2,
-            Refusal::Branches => 10,
             Refusal::J => 3,
             Refusal::Position => 4,
             Refusal::NotSelfOrthogonal => 5,
@@ -54,6 +53,7 @@ impl From<Refusal> for u32 {
             Refusal::Symbol => 7,
             Refusal::ThresholdCount => 8,
             Refusal::Threshold => 9,
+            Refusal::Branches => 10,
             Refusal::SymbolNumber => 11,
             Refusal::Block => 12,
             Refusal::Contents => 13,

@@ -2,6 +2,9 @@
 #![tactic(auto)]
 
 ghost use Rattle.std.specs.Prelude.{◌≡◌, ◌+◌, ◌<◌, ◌≤◌};
+ghost use Rattle.tally.specs.Counts.{counts_of, counts_in};
+
+use refusals::Refusal;
 
 // The four counts of a decode.
 #[derive(Clone, Copy)]
@@ -57,6 +60,13 @@ impl Tally {
     {
         Tally { passes, ..self }
     }
+}
+
+// The counts of a decode, four zeros where it is refused.
+pub fn counts(got: Result<Tally, Refusal>) -> Tally
+    ensures { counts_of result ≡ counts_in got }
+{
+    got.unwrap_or(Tally::opened(0))
 }
 
 // What decode hands back beside the buffers: its number, and the counts, four zeros where it is refused.
