@@ -8,11 +8,11 @@ ghost use Rattle.model.specs.Bytes.{symbol_size, symbols_of, positions_of, wide_
 ghost use Rattle.model.specs.Demand.{DecodeFalls, DecodeRecovers};
 ghost use Rattle.wide_symbols.specs.Codes.{wide_code_by};
 
-use c_wide_sized::{Buffered, Room};
 use params::Params;
+use wide_buffers::SmallSymbol;
 
 // Decodes a page, with a table whose positions a buffer of M holds.
-fn decode_with<S: Room, const M: usize>(
+fn decode_with<S: SmallSymbol, const M: usize>(
     code: Params,
     table: &[u8],
     page: &[u8],
@@ -47,25 +47,25 @@ fn decode_with<S: Room, const M: usize>(
     }
     let n = params::data_count(code);
     if n <= 128 {
-        <S as Buffered<128>>::decode_within(
+        c_wide_sized::decode_within::<S, 128>(
             code, positions, page, thresholds, res, syndrome, difference, margins, counts,
         );
         return 0;
     }
     if n <= 1024 {
-        <S as Buffered<1024>>::decode_within(
+        c_wide_sized::decode_within::<S, 1024>(
             code, positions, page, thresholds, res, syndrome, difference, margins, counts,
         );
         return 0;
     }
-    <S as Buffered<4096>>::decode_within(
+    c_wide_sized::decode_within::<S, 4096>(
         code, positions, page, thresholds, res, syndrome, difference, margins, counts,
     );
     0
 }
 
 // Decodes a page. A small table is read into a small buffer, which costs less to clear.
-pub fn decode<S: Room>(
+pub fn decode<S: SmallSymbol>(
     k: u32,
     b: u32,
     table: &[u8],

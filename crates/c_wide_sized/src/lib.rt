@@ -11,6 +11,7 @@ ghost use Rattle.wide_symbols.specs.Codes.{wide_code_by};
 ghost use Rattle.c_wide.specs.Decodes.{DecodeTakes, decoded_bytes};
 
 use params::Params;
+use wide_buffers::SmallSymbol;
 use wide_symbols::WideSymbol;
 
 // Decodes a page that was tested, in buffers of n and of k symbols, and writes what it leaves as bytes.
@@ -50,113 +51,51 @@ fn decode_in<S: WideSymbol>(
     );
 }
 
-// A symbol of which buffers of N stand on the stack. Kept: two bodies that differ in the type alone. Of an array whose elements are of a type
-// parameter the prover does not know that its bytes fit memory, so that no part of it can be lent (tried, and the proof didn't close).
-pub trait Buffered<const N: usize>: WideSymbol {
-    // Decodes a page that was tested, of a code of at most N data symbols.
-    fn decode_within(
-        code: Params,
-        positions: &[u16],
-        page: &[u8],
-        thresholds: &[u8],
-        res: &mut [u8],
-        syndrome: &mut [u8],
-        difference: &mut [u8],
-        margins: &mut [u8],
-        counts: &mut [u8],
-    )
-        requires { (N ≤ 4096)
-            × DecodeTakes (symbol_size Self.profile) (wide_code_by Self.profile code positions.now) page.now thresholds.now
-            (state_by res.old syndrome.old difference.old) margins.old counts.old
-            × (code.b * code.k ≤ N) }
-        ensures { record {
-          state = state_by res.new syndrome.new difference.new;
-          margins = margins.new;
-          counts = counts.new;
-        } ≡ decoded_bytes (symbol_size Self.profile) (wide_code_by Self.profile code positions.now) thresholds.now page.now };
+// Decodes a page that was tested, of a code of at most N data symbols.
+#[inline(never)]
+pub fn decode_within<S: SmallSymbol, const N: usize>(
+    code: Params,
+    positions: &[u16],
+    page: &[u8],
+    thresholds: &[u8],
+    res: &mut [u8],
+    syndrome: &mut [u8],
+    difference: &mut [u8],
+    margins: &mut [u8],
+    counts: &mut [u8],
+)
+    requires { (N ≤ 4096)
+        × DecodeTakes (symbol_size S.profile) (wide_code_by S.profile code positions.now) page.now thresholds.now
+        (state_by res.old syndrome.old difference.old) margins.old counts.old
+        × (code.b * code.k ≤ N) }
+    ensures { record {
+      state = state_by res.new syndrome.new difference.new;
+      margins = margins.new;
+      counts = counts.new;
+    } ≡ decoded_bytes (symbol_size S.profile) (wide_code_by S.profile code positions.now) thresholds.now page.now }
+{
+    S::takes_few_bytes();
+    let n = params::data_count(code);
+    let m = code.k;
+    let mut zeros = [0u8; N];
+    let mut marks = [0u8; N];
+    let mut r = [S::narrowed(0); N];
+    let mut s = [S::narrowed(0); N];
+    let mut d = [S::narrowed(0); N];
+    decode_in(
+        code,
+        positions,
+        page,
+        thresholds,
+        &mut zeros[..n],
+        &mut marks[..n],
+        &mut r[..n],
+        &mut s[..m],
+        &mut d[..n],
+        res,
+        syndrome,
+        difference,
+        margins,
+        counts,
+    );
 }
-
-impl<const N: usize> Buffered<N> for u16 {
-    #[inline(never)]
-    fn decode_within(
-        code: Params,
-        positions: &[u16],
-        page: &[u8],
-        thresholds: &[u8],
-        res: &mut [u8],
-        syndrome: &mut [u8],
-        difference: &mut [u8],
-        margins: &mut [u8],
-        counts: &mut [u8],
-    ) {
-        let n = params::data_count(code);
-        let m = code.k;
-        let mut zeros = [0u8; N];
-        let mut marks = [0u8; N];
-        let mut r = [0; N];
-        let mut s = [0; N];
-        let mut d = [0; N];
-        decode_in::<u16>(
-            code,
-            positions,
-            page,
-            thresholds,
-            &mut zeros[..n],
-            &mut marks[..n],
-            &mut r[..n],
-            &mut s[..m],
-            &mut d[..n],
-            res,
-            syndrome,
-            difference,
-            margins,
-            counts,
-        );
-    }
-}
-
-impl<const N: usize> Buffered<N> for u32 {
-    #[inline(never)]
-    fn decode_within(
-        code: Params,
-        positions: &[u16],
-        page: &[u8],
-        thresholds: &[u8],
-        res: &mut [u8],
-        syndrome: &mut [u8],
-        difference: &mut [u8],
-        margins: &mut [u8],
-        counts: &mut [u8],
-    ) {
-        let n = params::data_count(code);
-        let m = code.k;
-        let mut zeros = [0u8; N];
-        let mut marks = [0u8; N];
-        let mut r = [0; N];
-        let mut s = [0; N];
-        let mut d = [0; N];
-        decode_in::<u32>(
-            code,
-            positions,
-            page,
-            thresholds,
-            &mut zeros[..n],
-            &mut marks[..n],
-            &mut r[..n],
-            &mut s[..m],
-            &mut d[..n],
-            res,
-            syndrome,
-            difference,
-            margins,
-            counts,
-        );
-    }
-}
-
-// Buffers of the three sizes.
-pub trait Room: Buffered<128> + Buffered<1024> + Buffered<4096> {}
-
-impl Room for u16 {}
-
-impl Room for u32 {}
