@@ -11,6 +11,7 @@ ghost use Rattle.wide_symbols.specs.Codes.{wide_code_by};
 ghost use Rattle.c_wide.specs.Calls.{StateBytes};
 
 use params::Params;
+use wide_buffers::SmallSymbol;
 use wide_symbols::WideSymbol;
 
 // The syndrome of data and checks in bytes, read into buffers of n and of k symbols, and written over the checks.
@@ -36,49 +37,31 @@ fn over<S: WideSymbol>(
     wide_bytes::write_symbols(s, checks);
 }
 
-// A symbol of which buffers of N stand on the stack. Kept: two bodies that differ in the type alone. Of an array whose elements are of a type
-// parameter the prover does not know that its bytes fit memory, so that no part of it can be lent (tried, and the proof didn't close).
-pub trait Buffered<const N: usize>: WideSymbol {
-    // At most N data symbols.
-    fn within(code: Params, positions: &[u16], data: &[u8], s: &mut [u8])
-        requires { (N ≤ 4096)
-            × Usable (wide_code_by Self.profile code positions.now)
-            × (length «data».now ≡ data_count (wide_code_by Self.profile code positions.now) * symbol_size Self.profile)
-            × (length s.old ≡ check_count (wide_code_by Self.profile code positions.now) * symbol_size Self.profile)
-            × (data_count (wide_code_by Self.profile code positions.now) ≤ N) }
-        ensures { s.new ≡ symbol_bytes (symbol_size Self.profile)
-            (syndrome (wide_code_by Self.profile code positions.now) (symbols_of (symbol_size Self.profile) «data».now ++ symbols_of (symbol_size Self.profile) s.old)) };
+// By buffers of N, of at most N data symbols.
+#[inline(never)]
+fn within<S: SmallSymbol, const N: usize>(
+    code: Params,
+    positions: &[u16],
+    data: &[u8],
+    s: &mut [u8],
+)
+    requires { (N ≤ 4096)
+        × Usable (wide_code_by S.profile code positions.now)
+        × (length «data».now ≡ data_count (wide_code_by S.profile code positions.now) * symbol_size S.profile)
+        × (length s.old ≡ check_count (wide_code_by S.profile code positions.now) * symbol_size S.profile)
+        × (data_count (wide_code_by S.profile code positions.now) ≤ N) }
+    ensures { s.new ≡ symbol_bytes (symbol_size S.profile)
+        (syndrome (wide_code_by S.profile code positions.now) (symbols_of (symbol_size S.profile) «data».now ++ symbols_of (symbol_size S.profile) s.old)) }
+{
+    S::takes_few_bytes();
+    let n = params::data_count(code);
+    let mut u = [S::narrowed(0); N];
+    let mut v = [S::narrowed(0); N];
+    over(code, positions, data, s, &mut u[..n], &mut v[..code.k]);
 }
-
-impl<const N: usize> Buffered<N> for u16 {
-    #[inline(never)]
-    fn within(code: Params, positions: &[u16], data: &[u8], s: &mut [u8]) {
-        let n = params::data_count(code);
-        let mut u = [0; N];
-        let mut v = [0; N];
-        over::<u16>(code, positions, data, s, &mut u[..n], &mut v[..code.k]);
-    }
-}
-
-impl<const N: usize> Buffered<N> for u32 {
-    #[inline(never)]
-    fn within(code: Params, positions: &[u16], data: &[u8], s: &mut [u8]) {
-        let n = params::data_count(code);
-        let mut u = [0; N];
-        let mut v = [0; N];
-        over::<u32>(code, positions, data, s, &mut u[..n], &mut v[..code.k]);
-    }
-}
-
-// Buffers of the three sizes.
-pub trait Room: Buffered<128> + Buffered<1024> + Buffered<4096> {}
-
-impl Room for u16 {}
-
-impl Room for u32 {}
 
 // By the smallest buffers that hold the data.
-fn over_checks<S: Room>(code: Params, positions: &[u16], data: &[u8], s: &mut [u8])
+fn over_checks<S: SmallSymbol>(code: Params, positions: &[u16], data: &[u8], s: &mut [u8])
     requires { Usable (wide_code_by S.profile code positions.now)
         × (length «data».now ≡ data_count (wide_code_by S.profile code positions.now) * symbol_size S.profile)
         × (length s.old ≡ check_count (wide_code_by S.profile code positions.now) * symbol_size S.profile) }
@@ -87,16 +70,16 @@ fn over_checks<S: Room>(code: Params, positions: &[u16], data: &[u8], s: &mut [u
 {
     let n = params::data_count(code);
     if n <= 128 {
-        <S as Buffered<128>>::within(code, positions, data, s);
+        within::<S, 128>(code, positions, data, s);
     } else if n <= 1024 {
-        <S as Buffered<1024>>::within(code, positions, data, s);
+        within::<S, 1024>(code, positions, data, s);
     } else {
-        <S as Buffered<4096>>::within(code, positions, data, s);
+        within::<S, 4096>(code, positions, data, s);
     }
 }
 
 // Encodes data that was tested: its bytes in front, and behind them the syndrome that is worked out where zeros stand, which is the checks.
-pub fn encode_into<S: Room>(code: Params, positions: &[u16], data: &[u8], page: &mut [u8])
+pub fn encode_into<S: SmallSymbol>(code: Params, positions: &[u16], data: &[u8], page: &mut [u8])
     requires { Usable (wide_code_by S.profile code positions.now)
         × (length «data».now ≡ data_count (wide_code_by S.profile code positions.now) * symbol_size S.profile)
         × (length page.old ≡ page_length (wide_code_by S.profile code positions.now) * symbol_size S.profile) }
@@ -110,7 +93,7 @@ pub fn encode_into<S: Room>(code: Params, positions: &[u16], data: &[u8], page: 
 }
 
 // The syndrome of a page that was tested, worked out over its checks.
-pub fn syndrome_into<S: Room>(code: Params, positions: &[u16], page: &[u8], s: &mut [u8])
+pub fn syndrome_into<S: SmallSymbol>(code: Params, positions: &[u16], page: &[u8], s: &mut [u8])
     requires { Usable (wide_code_by S.profile code positions.now)
         × (length page.now ≡ page_length (wide_code_by S.profile code positions.now) * symbol_size S.profile)
         × (length s.old ≡ check_count (wide_code_by S.profile code positions.now) * symbol_size S.profile) }
@@ -122,7 +105,7 @@ pub fn syndrome_into<S: Room>(code: Params, positions: &[u16], page: &[u8], s: &
 }
 
 // Opens a page that was tested: its data in the result, the syndrome in S, zeros in D.
-pub fn open_into<S: Room>(
+pub fn open_into<S: SmallSymbol>(
     code: Params,
     positions: &[u16],
     page: &[u8],

@@ -10,8 +10,8 @@ ghost use Rattle.model.specs.Bytes.{symbol_size, symbols_of, positions_of, wide_
 ghost use Rattle.model.specs.Demand.{Encodes};
 ghost use Rattle.wide_symbols.specs.Codes.{wide_code_by};
 
-use c_wide_checks::Room;
 use params::Params;
+use wide_buffers::SmallSymbol;
 use wide_symbols::WideSymbol;
 
 // Checks a code table. A small table is read into a small buffer, which costs less to clear.
@@ -35,7 +35,7 @@ pub fn check_table<S: WideSymbol>(k: u32, b: u32, table: &[u8]) -> u32
 }
 
 // Encodes data into a page, with the positions read.
-fn encode_with<S: Room>(code: Params, positions: &[u16], data: &[u8], page: &mut [u8]) -> u32
+fn encode_with<S: SmallSymbol>(code: Params, positions: &[u16], data: &[u8], page: &mut [u8]) -> u32
     requires { (code.k ≤ 4294967295) × (code.b ≤ 4294967295) }
     ensures outcome { record { number = result; left = page.new }
         ≡ wide_encode_outcome (wide_code_by S.profile code positions.now) «data».now page.old }
@@ -55,7 +55,7 @@ fn encode_with<S: Room>(code: Params, positions: &[u16], data: &[u8], page: &mut
 }
 
 // Encodes data into a page.
-pub fn encode<S: Room>(k: u32, b: u32, table: &[u8], data: &[u8], page: &mut [u8]) -> u32
+pub fn encode<S: SmallSymbol>(k: u32, b: u32, table: &[u8], data: &[u8], page: &mut [u8]) -> u32
     ensures outcome { record { number = result; left = page.new }
         ≡ wide_encode_outcome (wide_code S.profile k b (positions_of table.now)) «data».now page.old }
     ensures word { result ≡ 0 → Encodes (wide_code S.profile k b (positions_of table.now)) (symbols_of (symbol_size S.profile) «data».now)
@@ -78,7 +78,7 @@ pub fn encode<S: Room>(k: u32, b: u32, table: &[u8], data: &[u8], page: &mut [u8
 }
 
 // Works out the syndrome of a page, with the positions read.
-fn syndrome_with<S: Room>(code: Params, positions: &[u16], page: &[u8], s: &mut [u8]) -> u32
+fn syndrome_with<S: SmallSymbol>(code: Params, positions: &[u16], page: &[u8], s: &mut [u8]) -> u32
     requires { (code.k ≤ 4294967295) × (code.b ≤ 4294967295) }
     ensures { record { number = result; left = s.new }
         ≡ wide_syndrome_outcome (wide_code_by S.profile code positions.now) page.now s.old }
@@ -96,7 +96,13 @@ fn syndrome_with<S: Room>(code: Params, positions: &[u16], page: &[u8], s: &mut 
 }
 
 // Works out the syndrome of a page.
-pub fn syndrome<S: Room>(k: u32, b: u32, table: &[u8], page: &[u8], syndrome: &mut [u8]) -> u32
+pub fn syndrome<S: SmallSymbol>(
+    k: u32,
+    b: u32,
+    table: &[u8],
+    page: &[u8],
+    syndrome: &mut [u8],
+) -> u32
     ensures { record { number = result; left = syndrome.new }
         ≡ wide_syndrome_outcome (wide_code S.profile k b (positions_of table.now)) page.now syndrome.old }
 {
@@ -117,7 +123,7 @@ pub fn syndrome<S: Room>(k: u32, b: u32, table: &[u8], page: &[u8], syndrome: &m
 }
 
 // Opens a page, with the positions read.
-fn open_with<S: Room>(
+fn open_with<S: SmallSymbol>(
     code: Params,
     positions: &[u16],
     page: &[u8],
@@ -144,7 +150,7 @@ fn open_with<S: Room>(
 }
 
 // Opens a page.
-pub fn open<S: Room>(
+pub fn open<S: SmallSymbol>(
     k: u32,
     b: u32,
     table: &[u8],
