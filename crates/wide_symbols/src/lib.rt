@@ -6,16 +6,13 @@ ghost use Rattle.std.proofs.lemmas.List.Edits.{sets};
 ghost use Rattle.model.specs.Bytes.{symbol_size, number_of, bytes_in};
 ghost use Rattle.model.specs.Code.{Profile, wide16, wide32, highest};
 ghost use Rattle.model.specs.Symbols.{Below, add, sub, same, differ, weight, tabulate, add_each, sub_each};
-ghost use Rattle.wide_symbols.specs.Numbers.{IsNumbers, numbers_themselves};
 ghost use Rattle.wide_symbols.specs.Widths.{IsWide, two_bytes, four_bytes};
 
-// A symbol of a wide profile. A slice of symbols stands for the list of their numbers, which is what the definitions speak of.
-pub trait WideSymbol: Copy {
+use any_symbols::Symbol;
+
+// A symbol of a wide profile.
+pub trait WideSymbol: Symbol {
     ghost profile: { Profile };
-
-    ghost number: { Self → ℕ };
-
-    ghost numbers: { List Self → List ℕ };
 
     ghost SIZE: { ℕ };
 
@@ -24,53 +21,45 @@ pub trait WideSymbol: Copy {
 
     // The sum of two symbols is the wrapping sum.
     fn add_wrap(self, other: Self) -> Self
-        ensures { number result ≡ add (highest profile) (number self) (number other) };
+        ensures { Self.number result ≡ add (highest profile) (Self.number self) (Self.number other) };
 
     // The difference of two symbols is the wrapping difference.
     fn sub_wrap(self, other: Self) -> Self
-        ensures { number result ≡ sub (highest profile) (number self) (number other) };
+        ensures { Self.number result ≡ sub (highest profile) (Self.number self) (Self.number other) };
 
     // A symbol as the votes take it.
     fn widened(self) -> u32
-        ensures { result ≡ number self };
+        ensures { result ≡ Self.number self };
 
     // And back.
     fn narrowed(x: u32) -> Self
         requires { x < highest profile }
-        ensures { number result ≡ x };
+        ensures { Self.number result ≡ x };
 
     // The symbol that stands at a place among bytes, low byte first.
     fn get(bytes: &[u8], at: usize) -> Self
         requires { at + SIZE ≤ length bytes.now }
-        ensures { number result ≡ number_of (take SIZE (drop at bytes.now)) };
+        ensures { Self.number result ≡ number_of (take SIZE (drop at bytes.now)) };
 
     // The symbol written there.
     fn put(self, bytes: &mut [u8], at: usize)
         requires { at + SIZE ≤ length bytes.old }
-        ensures { bytes.new ≡ sets bytes.old at (bytes_in SIZE (number self)) };
+        ensures { bytes.new ≡ sets bytes.old at (bytes_in SIZE (Self.number self)) };
 
     // Every symbol is below q. It does nothing, since the type says so: a function over any symbol learns it by a call.
     fn all_below(s: &[Self])
-        ensures { Below (highest profile) (numbers s.now) };
+        ensures { Below (highest profile) (Self.numbers s.now) };
 
     // What holds of every such symbol.
-    ghost are_numbers: { IsNumbers number numbers };
-
     ghost is_wide: { IsWide profile SIZE };
 }
 
 impl WideSymbol for u16 {
     ghost profile = { wide16 };
 
-    ghost number = { λ x. x };
-
-    ghost numbers = { λ xs. xs };
-
     ghost SIZE = { 2 };
 
     const SIZE: usize = 2;
-
-    ghost are_numbers = { numbers_themselves };
 
     ghost is_wide = { two_bytes };
 
@@ -106,15 +95,9 @@ impl WideSymbol for u16 {
 impl WideSymbol for u32 {
     ghost profile = { wide32 };
 
-    ghost number = { λ x. x };
-
-    ghost numbers = { λ xs. xs };
-
     ghost SIZE = { 4 };
 
     const SIZE: usize = 4;
-
-    ghost are_numbers = { numbers_themselves };
 
     ghost is_wide = { four_bytes };
 
@@ -151,7 +134,7 @@ impl WideSymbol for u32 {
 pub fn zeros_of<S: WideSymbol>(x: S) -> u8
     ensures { (result ≡ same 0 (S.number x)) × (result ≤ 1) }
 {
-    if x.widened() == 0 { 1 } else { 0 }
+    x.zeros()
 }
 
 // The mark of a symbol: 0 where it is 0, else 1.

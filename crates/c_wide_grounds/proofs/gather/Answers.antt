@@ -12,7 +12,7 @@ loop-i-init g c =
     let a = c.args in
     let h = g.S.WideSymbol in
     ap (λ (x : ℕ). take (0 + 1) (set a.es.now 0 x)) c.widened.ensures
-    ∙ gather_none (symbols_of (symbol_size h.profile) a.s.now) a.code.k a.positions.now a.j (h.number a.own) a.es.now (omega arith)
+    ∙ gather_none (symbols_of (symbol_size h.profile) a.s.now) a.code.k a.positions.now a.j (g.S.Symbol.number a.own) a.es.now (omega arith)
 
 pub overflow_mul-c : goal.overflow_mul-c
 overflow_mul-c g c =
@@ -41,7 +41,7 @@ loop-i-preserved g c =
     ap (λ (x : ℕ). take (l.i + 1 + 1) (set l.es (l.i + 1) x))
     (c.widened-in-loop-i.ensures ∙ c.get.ensures ∙ read_size wide _ c.SIZE-size.ensures a.s.now c.check_of-c.result
     ∙ sym (symbol-at m (wide_some wide) a.code.k a.s.now p.1 c.check_of-c.result inside))
-    ∙ gather_turn s a.code.k a.positions.now a.j (h.number a.own) l.i c.check_of-c.result l.es (omega arith) (omega (arith, length-set a.es.now 0 c.widened.result)) c.check_of-c.ensures l.invariant
+    ∙ gather_turn s a.code.k a.positions.now a.j (g.S.Symbol.number a.own) l.i c.check_of-c.result l.es (omega arith) (omega (arith, length-set a.es.now 0 c.widened.result)) c.check_of-c.ensures l.invariant
 
 pub returns : goal.returns
 returns g c =
@@ -49,4 +49,4 @@ returns g c =
     let l = c.loop-i in
     let h = g.S.WideSymbol in
     sym (take_all (l.i + 1) l.es (omega (arith, length-set a.es.now 0 c.widened.result))) ∙ l.invariant
-    ∙ ap (λ (ps : List ℕ). h.number a.own ∷ symbols_at (symbols_of (symbol_size h.profile) a.s.now) (checks_by a.code.k ps a.j)) (take_all l.i a.positions.now (omega arith))
+    ∙ ap (λ (ps : List ℕ). g.S.Symbol.number a.own ∷ symbols_at (symbols_of (symbol_size h.profile) a.s.now) (checks_by a.code.k ps a.j)) (take_all l.i a.positions.now (omega arith))

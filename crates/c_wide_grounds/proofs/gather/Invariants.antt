@@ -8,4 +8,4 @@ use Rattle.c_wide_grounds.proofs.gather.Given as goal
 abbrev pub invariant-loop-i : goal.invariant-loop-i
 invariant-loop-i g l =
     let h = g.S.WideSymbol in
-    take (l.i + 1) l.es ≡ h.number l.fn.own ∷ symbols_at (symbols_of (symbol_size h.profile) l.s) (checks_by l.code.k (take l.i l.positions) l.j)
+    take (l.i + 1) l.es ≡ g.S.Symbol.number l.fn.own ∷ symbols_at (symbols_of (symbol_size h.profile) l.s) (checks_by l.code.k (take l.i l.positions) l.j)

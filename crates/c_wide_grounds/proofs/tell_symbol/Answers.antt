@@ -58,6 +58,6 @@ returns g c =
     let s : List ℕ = symbols_of m a.s.now in
     let code = wide_code_by h.profile a.code a.positions.now in
     c.tell.ensures
-    ∙ ap (λ (is : List ℕ). told_of a.threshold (h.number c.get-own.result ∷ symbols_at s is)) (index p.0 _ _ _ c.checks_each.ensures p.3 c.place_of-place.ensures)
+    ∙ ap (λ (is : List ℕ). told_of a.threshold (g.S.Symbol.number c.get-own.result ∷ symbols_at s is)) (index p.0 _ _ _ c.checks_each.ensures p.3 c.place_of-place.ensures)
     ∙ ap (λ (x : ℕ). told_of a.threshold (x ∷ symbols_at s (checks_of code a.symbol)))
     (c.get-own.ensures ∙ read_size wide _ c.SIZE.ensures a.d.now a.symbol ∙ sym (symbol-at m (wide_some wide) (data_count code) a.d.now p.2 a.symbol p.3))

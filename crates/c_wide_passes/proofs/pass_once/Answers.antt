@@ -38,7 +38,7 @@ run-tally-requires g c =
     let p = c.requires in
     let f = g.S.WideSymbol.profile in
     let code = wide_code_by f a.code a.positions.now in
-    let numbers = g.S.WideSymbol.numbers in
+    let numbers = g.S.Symbol.numbers in
     let loaded : state_by (numbers c.read_symbols.new.out) (numbers c.read_symbols-2.new.out) (numbers c.read_symbols-3.new.out)
     ≡ state_read (symbol_size f) (state_by a.res.now a.syndrome.now a.difference.now) =
     (λ i. state_by (c.read_symbols.ensures i) (c.read_symbols-2.ensures i) (c.read_symbols-3.ensures i)) in
@@ -56,7 +56,7 @@ returns g c =
     let a = c.args in
     let f = g.S.WideSymbol.profile in
     let code = wide_code_by f a.code a.positions.now in
-    let numbers = g.S.WideSymbol.numbers in
+    let numbers = g.S.Symbol.numbers in
     let loaded : state_by (numbers c.read_symbols.new.out) (numbers c.read_symbols-2.new.out) (numbers c.read_symbols-3.new.out)
     ≡ state_read (symbol_size f) (state_by a.res.now a.syndrome.now a.difference.now) =
     (λ i. state_by (c.read_symbols.ensures i) (c.read_symbols-2.ensures i) (c.read_symbols-3.ensures i)) in

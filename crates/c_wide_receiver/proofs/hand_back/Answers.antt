@@ -13,20 +13,20 @@ pub write_symbols-requires-2 : goal.write_symbols-requires-2
 write_symbols-requires-2 g c =
     let p = c.requires in
     let l = p.0.checks in
-    let n = numbers_length g.met.S.WideSymbol.are_numbers c.args.s.now in
+    let n = numbers_length g.met.S.Symbol.are_numbers c.args.s.now in
     (p.4 ∙ ap (λ (n : ℕ). n * symbol_size g.S.WideSymbol.profile) (sym l.len ∙ n), omega (arith, n, l.len, l.table.sizes.k_high))
 
 pub write_symbols-requires-3 : goal.write_symbols-requires-3
 write_symbols-requires-3 g c =
     let p = c.requires in
     let l = p.0.len_difference in
-    let n = numbers_length g.met.S.WideSymbol.are_numbers c.args.d.now in
+    let n = numbers_length g.met.S.Symbol.are_numbers c.args.d.now in
     (p.5 ∙ ap (λ (n : ℕ). n * symbol_size g.S.WideSymbol.profile) (sym l ∙ n), omega (arith, n, l, p.0.checks.table.sizes.data-high))
 
 pub returns : goal.returns
 returns g c =
     λ i. record {
       state = record { result = c.write_symbols.ensures i; syndrome = c.write_symbols-2.ensures i; difference = c.write_symbols-3.ensures i };
-      margins = c.put_margins.ensures (g.S.WideSymbol.numbers c.args.r.now) i;
+      margins = c.put_margins.ensures (g.S.Symbol.numbers c.args.r.now) i;
       counts = c.put_counts.ensures i;
     }

@@ -51,7 +51,7 @@ pub overflow_mul-n : goal.overflow_mul-n
 overflow_mul-n g c =
     let a = c.args in
     let h = g.S.WideSymbol in
-    let n = numbers_length g.met.S.WideSymbol.are_numbers in
+    let n = numbers_length g.met.S.Symbol.are_numbers in
     let w = g.met.S.WideSymbol.is_wide in
     let m = symbol_size h.profile in
     let k = length a.r.now * c.SIZE.result in
@@ -64,7 +64,7 @@ pub slice_bounds-read_symbols-end : goal.slice_bounds-read_symbols-end
 slice_bounds-read_symbols-end g c =
     let a = c.args in
     let h = g.S.WideSymbol in
-    let n = numbers_length g.met.S.WideSymbol.are_numbers in
+    let n = numbers_length g.met.S.Symbol.are_numbers in
     let w = g.met.S.WideSymbol.is_wide in
     let m = symbol_size h.profile in
     let k = length a.r.now * c.SIZE.result in
@@ -76,7 +76,7 @@ pub read_symbols-requires : goal.read_symbols-requires
 read_symbols-requires g c =
     let a = c.args in
     let h = g.S.WideSymbol in
-    let n = numbers_length g.met.S.WideSymbol.are_numbers in
+    let n = numbers_length g.met.S.Symbol.are_numbers in
     let w = g.met.S.WideSymbol.is_wide in
     let m = symbol_size h.profile in
     let k = length a.r.now * c.SIZE.result in
@@ -88,7 +88,7 @@ pub read_symbols-requires-2 : goal.read_symbols-requires-2
 read_symbols-requires-2 g c =
     let a = c.args in
     let h = g.S.WideSymbol in
-    let n = numbers_length g.met.S.WideSymbol.are_numbers in
+    let n = numbers_length g.met.S.Symbol.are_numbers in
     let w = g.met.S.WideSymbol.is_wide in
     let m = symbol_size h.profile in
     let k = length a.r.now * c.SIZE.result in
@@ -100,14 +100,14 @@ pub decode_state-requires : goal.decode_state-requires
 decode_state-requires g c =
     let a = c.args in
     let h = g.S.WideSymbol in
-    let n = numbers_length g.met.S.WideSymbol.are_numbers in
+    let n = numbers_length g.met.S.Symbol.are_numbers in
     let w = g.met.S.WideSymbol.is_wide in
     let m = symbol_size h.profile in
     let k = length a.r.now * c.SIZE.result in
     let e : k ≡ length a.r.now * m = ap (λ (x : ℕ). length a.r.now * x) (c.SIZE.ensures ∙ wide_size w) in
     let z = sized (wide_code_by h.profile a.code a.positions.now) m _ _ _ a.page.now _ _ (wide_some w) c.requires.0 (n a.r.now) (n a.s.now) c.requires.3 in
     let l = loaded m (wide_some w) a.page.now (λ i. omega (arith, c.type_inv.page i)) _ _ z.len_page k e c.read_symbols.ensures c.read_symbols-2.ensures in (
-      taken_loaded (wide_code_by h.profile a.code a.positions.now) _ (h.numbers a.r.now) (h.numbers a.s.now) (h.numbers a.d.now) _ _ l
+      taken_loaded (wide_code_by h.profile a.code a.positions.now) _ (g.S.Symbol.numbers a.r.now) (g.S.Symbol.numbers a.s.now) (g.S.Symbol.numbers a.d.now) _ _ l
           (n c.read_symbols.new.out ∙ c.read_symbols.auto.out ∙ sym (n a.r.now)) (n c.read_symbols-2.new.out ∙ c.read_symbols-2.auto.out ∙ sym (n a.s.now)) a.thresholds.now c.requires.0,
       c.requires.1,
       c.requires.2,
@@ -118,7 +118,7 @@ pub returns : goal.returns
 returns g c =
     let a = c.args in
     let h = g.S.WideSymbol in
-    let n = numbers_length g.met.S.WideSymbol.are_numbers in
+    let n = numbers_length g.met.S.Symbol.are_numbers in
     let w = g.met.S.WideSymbol.is_wide in
     let m = symbol_size h.profile in
     let k = length a.r.now * c.SIZE.result in

@@ -12,7 +12,7 @@ pub receive-tally-requires : goal.receive-tally-requires
 receive-tally-requires g c =
     let a = c.args in
     let p = c.requires in
-    let n = numbers_length g.met.S.WideSymbol.are_numbers in
+    let n = numbers_length g.met.S.Symbol.are_numbers in
     (taken_in p.0.taken _ _ _ (n a.r.now ∙ p.4) (n a.s.now ∙ p.5) (n a.d.now ∙ p.6), p.1, p.2, p.3)
 
 pub hand_back-requires : goal.hand_back-requires

@@ -23,11 +23,11 @@ put-requires-in-loop-i g c = let p = wide_place g.met.S.WideSymbol.is_wide (2 * 
 pub loop-i-preserved : goal.loop-i-preserved
 loop-i-preserved g c =
     let h = g.S.WideSymbol in
-    let n = g.met.S.WideSymbol.are_numbers in
+    let n = g.met.S.Symbol.are_numbers in
     let w = g.met.S.WideSymbol.is_wide in
     let j = 2 * c.loop-i.i in
     let symbols = c.args.symbols.now in
-    let xs = h.numbers symbols in
+    let xs = g.S.Symbol.numbers symbols in
     let m = symbol_size h.profile in
     let all : length c.args.bytes.now ≡ length xs * m = c.requires.0 ∙ ap (λ k. k * m) (sym (numbers_length n symbols)) in
     let inside : j + 1 < length xs = omega (arith, numbers_length n symbols) in
@@ -48,10 +48,10 @@ put-requires-2 g c = let p = wide_place g.met.S.WideSymbol.is_wide (length c.arg
 pub returns : goal.returns
 returns g c =
     let h = g.S.WideSymbol in
-    let n = g.met.S.WideSymbol.are_numbers in
+    let n = g.met.S.Symbol.are_numbers in
     let w = g.met.S.WideSymbol.is_wide in
     let symbols = c.args.symbols.now in
-    let xs = h.numbers symbols in
+    let xs = g.S.Symbol.numbers symbols in
     let m = symbol_size h.profile in
     let j = length symbols - 1 in
     let all : length c.args.bytes.now ≡ length xs * m = c.requires.0 ∙ ap (λ k. k * m) (sym (numbers_length n symbols)) in

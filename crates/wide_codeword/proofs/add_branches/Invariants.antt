@@ -9,4 +9,4 @@ use Rattle.wide_codeword.proofs.add_branches.Given as goal
 abbrev pub invariant-loop-r : goal.invariant-loop-r
 invariant-loop-r g l =
     let s = g.S.WideSymbol in
-    s.numbers l.sums ≡ added (highest s.profile) (rest_sum (wide_code_by s.profile l.fn.code l.positions) (s.numbers l.«data») l.r) (s.numbers l.fn.sums)
+    g.S.Symbol.numbers l.sums ≡ added (highest s.profile) (rest_sum (wide_code_by s.profile l.fn.code l.positions) (g.S.Symbol.numbers l.«data») l.r) (g.S.Symbol.numbers l.fn.sums)

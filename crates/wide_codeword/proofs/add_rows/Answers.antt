@@ -14,14 +14,14 @@ use Rattle.wide_codeword.proofs.add_rows.Goals as goal
 pub loop-pair-preserved-then-pair-lt2 : goal.loop-pair-preserved-then-pair-lt2
 loop-pair-preserved-then-pair-lt2 g c =
     let m = g.S.WideSymbol in
-    let n = g.met.S.WideSymbol.are_numbers in
+    let n = g.met.S.Symbol.are_numbers in
     let q = highest m.profile in
     let i = c.loop-pair.invariant in
     let steps = c.in-Some.ensures.steps in
-    let u = m.numbers c.args.«data».now in
-    let s = m.numbers c.loop-pair.sums in
+    let u = g.S.Symbol.numbers c.args.«data».now in
+    let s = g.S.Symbol.numbers c.loop-pair.sums in
     let k = length c.args.«data».now in
-    let e : m.numbers c.add_row.new.acc ≡ add_each q s (row (get_or c.in-Some.pair.now 0 0) u) = c.add_row.ensures ∙ ap (λ p. add_each q s (row p u)) c.from.ensures in
+    let e : g.S.Symbol.numbers c.add_row.new.acc ≡ add_each q s (row (get_or c.in-Some.pair.now 0 0) u) = c.add_row.ensures ∙ ap (λ p. add_each q s (row p u)) c.from.ensures in
     record {
       pairs = steps.0 ∙ i.pairs;
       ascending = ascending_rest _ c.in-Some.pair.now _ (subst (Ascending _) steps.1.0 i.ascending);
@@ -34,15 +34,15 @@ loop-pair-preserved-then-pair-lt2 g c =
 pub loop-pair-preserved-then-pair-lt3 : goal.loop-pair-preserved-then-pair-lt3
 loop-pair-preserved-then-pair-lt3 g c =
     let m = g.S.WideSymbol in
-    let n = g.met.S.WideSymbol.are_numbers in
+    let n = g.met.S.Symbol.are_numbers in
     let q = highest m.profile in
     let i = c.loop-pair.invariant in
     let steps = c.in-Some.ensures.steps in
-    let u = m.numbers c.args.«data».now in
-    let s = m.numbers c.loop-pair.sums in
+    let u = g.S.Symbol.numbers c.args.«data».now in
+    let s = g.S.Symbol.numbers c.loop-pair.sums in
     let k = length c.args.«data».now in
     let first = add_each q s (row (get_or c.in-Some.pair.now 0 0) u) in
-    let e : m.numbers c.add_two_rows.new.acc ≡ add_each q first (row (get_or c.in-Some.pair.now 1 0) u) =
+    let e : g.S.Symbol.numbers c.add_two_rows.new.acc ≡ add_each q first (row (get_or c.in-Some.pair.now 1 0) u) =
     rw (c.from-in-len2.ensures, c.from-in-len2-2.ensures) at c.add_two_rows.ensures in
     record {
       pairs = steps.0 ∙ i.pairs;
@@ -56,7 +56,7 @@ loop-pair-preserved-then-pair-lt3 g c =
 pub returns : goal.returns
 returns g c =
     let m = g.S.WideSymbol in
-    let k = numbers_length g.met.S.WideSymbol.are_numbers c.args.«data».now in
-    (rw k at (rows_end (highest m.profile) (chunks_rest c.loop-pair.pair-iterator) (m.numbers c.args.«data».now) (m.numbers c.loop-pair.sums) 0
+    let k = numbers_length g.met.S.Symbol.are_numbers c.args.«data».now in
+    (rw k at (rows_end (highest m.profile) (chunks_rest c.loop-pair.pair-iterator) (g.S.Symbol.numbers c.args.«data».now) (g.S.Symbol.numbers c.loop-pair.sums) 0
     (rw k c.loop-pair.invariant.below) (omega (arith, c.in-None.ensures.steps.1.0))))
     ∙ c.loop-pair.invariant.left

@@ -11,11 +11,11 @@ abbrev pub invariant-loop-pair : goal.invariant-loop-pair
 invariant-loop-pair g l =
     let s = g.S.WideSymbol in
     let q = highest s.profile in
-    let u = s.numbers l.«data» in
+    let u = g.S.Symbol.numbers l.«data» in
     let rest = chunks_rest l.pair-iterator in
     record {
       pairs : chunks_size l.pair-iterator ≡ 2;
       ascending : Ascending (length l.«data») rest;
-      below : SymbolsBelow q (length l.«data») (s.numbers l.sums);
-      left : added q (check_sum_by (length l.«data») rest u) (s.numbers l.sums) ≡ added q (check_sum_by (length l.«data») l.positions u) (s.numbers l.initial.sums);
+      below : SymbolsBelow q (length l.«data») (g.S.Symbol.numbers l.sums);
+      left : added q (check_sum_by (length l.«data») rest u) (g.S.Symbol.numbers l.sums) ≡ added q (check_sum_by (length l.«data») l.positions u) (g.S.Symbol.numbers l.initial.sums);
     }

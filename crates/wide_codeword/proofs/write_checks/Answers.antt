@@ -10,6 +10,6 @@ pub returns : goal.returns
 returns g c =
     let m = g.S.WideSymbol in
     let code = wide_code_by m.profile c.args.code c.args.positions.now in
-    let u = m.numbers c.args.«data».now in
+    let u = g.S.Symbol.numbers c.args.«data».now in
     c.add_branches.ensures ∙ ap (added (highest m.profile) (rest_sum code u c.args.code.b)) c.first_row.ensures.written
     ∙ checks_written code c.requires.0 u (omega (arith, c.requires.1.len, one-branch code c.requires.0))

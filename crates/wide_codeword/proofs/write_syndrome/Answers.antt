@@ -13,14 +13,14 @@ use Rattle.wide_codeword.proofs.write_syndrome.Goals as goal
 
 pub less_row-requires : goal.less_row-requires
 less_row-requires g c =
-    let n = g.met.S.WideSymbol.are_numbers in
+    let n = g.met.S.Symbol.are_numbers in
     let x = c.args.«data».now in
     let e = length-take-le c.args.code.k x (omega (arith, c.requires.1.len, numbers_length n x, one-branch _ c.requires.0)) in
     (c.requires.2 ∙ sym e, omega (arith, e, first_inside _ c.requires.0))
 
 pub add_branches-requires : goal.add_branches-requires
 add_branches-requires g c =
-    let n = g.met.S.WideSymbol.are_numbers in
+    let n = g.met.S.Symbol.are_numbers in
     let q = highest g.S.WideSymbol.profile in
     let k = c.args.code.k in
     let x = c.args.«data».now in
@@ -36,9 +36,9 @@ returns g c =
     let m = g.S.WideSymbol in
     let q = highest m.profile in
     let code = wide_code_by m.profile c.args.code c.args.positions.now in
-    let u = m.numbers c.args.«data».now in
-    let s = m.numbers c.args.s.now in
+    let u = g.S.Symbol.numbers c.args.«data».now in
+    let s = g.S.Symbol.numbers c.args.s.now in
     c.add_branches.ensures
     ∙ ap (added q (rest_sum code u c.args.code.b))
-    (c.less_row.ensures ∙ ap (λ x. sub_each q (row (get_or c.args.positions.now 0 0) x) s) (numbers_take g.met.S.WideSymbol.are_numbers c.args.code.k c.args.«data».now))
+    (c.less_row.ensures ∙ ap (λ x. sub_each q (row (get_or c.args.positions.now 0 0) x) s) (numbers_take g.met.S.Symbol.are_numbers c.args.code.k c.args.«data».now))
     ∙ syndrome_over code c.requires.0 u s c.requires.1.len

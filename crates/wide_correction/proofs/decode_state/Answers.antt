@@ -11,7 +11,7 @@ use Rattle.wide_correction.proofs.decode_state.Goals as goal
 pub returns-then-start-eq0-clause-done : goal.returns-then-start-eq0-clause-done
 returns-then-start-eq0-clause-done g c =
     let a = c.args in
-    let f = g.S.WideSymbol.numbers in
+    let f = g.S.Symbol.numbers in
     let o = c.open_state-start.ensures in
     let opens = c.requires.0.opens in
     rw (c.passed.ensures, c.opened.ensures)
@@ -22,7 +22,7 @@ returns-then-start-eq0-clause-done g c =
 pub run-ran-requires : goal.run-ran-requires
 run-ran-requires g c =
     let a = c.args in
-    let f = g.S.WideSymbol.numbers in
+    let f = g.S.Symbol.numbers in
     let code = wide_code_by g.S.WideSymbol.profile a.code a.positions.now in
     let opens = c.requires.0.opens in (
       subst (λ (st : State). ReadyIn (highest g.S.WideSymbol.profile) code st) (sym c.open_state-start.ensures.state)
@@ -37,7 +37,7 @@ run-ran-requires g c =
 pub returns-clause-done : goal.returns-clause-done
 returns-clause-done g c =
     let a = c.args in
-    let f = g.S.WideSymbol.numbers in
+    let f = g.S.Symbol.numbers in
     let code = wide_code_by g.S.WideSymbol.profile a.code a.positions.now in
     let o = c.open_state-start.ensures in
     let opens = c.requires.0.opens in

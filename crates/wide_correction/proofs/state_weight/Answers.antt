@@ -6,8 +6,8 @@ use Rattle.wide_correction.proofs.state_weight.Goals as goal
 pub overflow_add-result : goal.overflow_add-result
 overflow_add-result g c =
     let a = c.args in
-    let f = g.S.WideSymbol.numbers in
-    let n = g.met.S.WideSymbol.are_numbers in
+    let f = g.S.Symbol.numbers in
+    let n = g.met.S.Symbol.are_numbers in
     omega (
       arith,
       c.weight_of.ensures,

@@ -35,8 +35,8 @@ returns-then-number-ne0 g c =
     let a = c.args in
     let h = g.S.WideSymbol in
     let code = wide_code h.profile a.k a.b a.positions.now in
-    let read = state_by (h.numbers a.res.now) (h.numbers a.syndrome.now) (h.numbers a.difference.now) in
-    let l = numbers_length g.met.S.WideSymbol.are_numbers in
+    let read = state_by (g.S.Symbol.numbers a.res.now) (g.S.Symbol.numbers a.syndrome.now) (g.S.Symbol.numbers a.difference.now) in
+    let l = numbers_length g.met.S.Symbol.are_numbers in
     let low = state_low (highest h.profile) (omega (arith, wide_low g.met.S.WideSymbol.is_wide)) read c.all_below.ensures c.all_below-2.ensures c.all_below-3.ensures in
     let n =
     number code a.threshold a.symbol read _ _ _ _ _ (c.explain_answer-number.ensures read low) c.state_fits-fits.ensures c.data_count-n.ensures
@@ -48,8 +48,8 @@ tell_symbol-told-requires g c =
     let a = c.args in
     let h = g.S.WideSymbol in
     let code = wide_code h.profile a.k a.b a.positions.now in
-    let read = state_by (h.numbers a.res.now) (h.numbers a.syndrome.now) (h.numbers a.difference.now) in
-    let l = numbers_length g.met.S.WideSymbol.are_numbers in
+    let read = state_by (g.S.Symbol.numbers a.res.now) (g.S.Symbol.numbers a.syndrome.now) (g.S.Symbol.numbers a.difference.now) in
+    let l = numbers_length g.met.S.Symbol.are_numbers in
     let low = state_low (highest h.profile) (omega (arith, wide_low g.met.S.WideSymbol.is_wide)) read c.all_below.ensures c.all_below-2.ensures c.all_below-3.ensures in
     let n =
     number code a.threshold a.symbol read _ _ _ _ _ (c.explain_answer-number.ensures read low) c.state_fits-fits.ensures c.data_count-n.ensures
@@ -63,8 +63,8 @@ returns g c =
     let a = c.args in
     let h = g.S.WideSymbol in
     let code = wide_code h.profile a.k a.b a.positions.now in
-    let read = state_by (h.numbers a.res.now) (h.numbers a.syndrome.now) (h.numbers a.difference.now) in
-    let l = numbers_length g.met.S.WideSymbol.are_numbers in
+    let read = state_by (g.S.Symbol.numbers a.res.now) (g.S.Symbol.numbers a.syndrome.now) (g.S.Symbol.numbers a.difference.now) in
+    let l = numbers_length g.met.S.Symbol.are_numbers in
     let low = state_low (highest h.profile) (omega (arith, wide_low g.met.S.WideSymbol.is_wide)) read c.all_below.ensures c.all_below-2.ensures c.all_below-3.ensures in
     let n =
     number code a.threshold a.symbol read _ _ _ _ _ (c.explain_answer-number.ensures read low) c.state_fits-fits.ensures c.data_count-n.ensures

@@ -38,9 +38,9 @@ pub returns : goal.returns
 returns g c =
     let a = c.args in
     let h = g.S.WideSymbol in
-    let s : List ℕ = h.numbers a.s.now in
-    let n = g.met.S.WideSymbol.are_numbers in
+    let s : List ℕ = g.S.Symbol.numbers a.s.now in
+    let n = g.met.S.Symbol.are_numbers in
     c.tell.ensures
-    ∙ ap (λ (is : List ℕ). told_of a.threshold (h.number c.index-d-symbol.result ∷ symbols_at s is)) (index c.requires.0 _ _ _ c.checks_each.ensures c.requires.2 c.place_of-place.ensures)
+    ∙ ap (λ (is : List ℕ). told_of a.threshold (g.S.Symbol.number c.index-d-symbol.result ∷ symbols_at s is)) (index c.requires.0 _ _ _ c.checks_each.ensures c.requires.2 c.place_of-place.ensures)
     ∙ ap (λ (x : ℕ). told_of a.threshold (x ∷ symbols_at s (checks_of (wide_code_by h.profile a.code a.positions.now) a.symbol)))
     (number_read n a.d.now a.symbol (omega (arith, c.requires.1, c.requires.2)) c.index-d-symbol.is)

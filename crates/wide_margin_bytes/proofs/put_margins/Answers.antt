@@ -15,6 +15,6 @@ returns-then-end-eq0 g c r =
     let p = c.requires.0 in
     let each = c.checks_each-each in
     c.write_firm.ensures
-    ∙ ap (λ (m : ℕ). margin_bytes (map (λ j. pos (each.result + 1) -ℤ pos 0) (tabulate m (λ j. j)))) (sym (numbers_length g.met.S.WideSymbol.are_numbers a.d.now) ∙ p.len_difference)
-    ∙ ap margin_bytes (margins_firm (wide_code_by h.profile a.code a.positions.now) p.checks.table (state_by r (h.numbers a.s.now) (h.numbers a.d.now)) _ (ap (λ (m : ℕ). m + 1) each.ensures)
+    ∙ ap (λ (m : ℕ). margin_bytes (map (λ j. pos (each.result + 1) -ℤ pos 0) (tabulate m (λ j. j)))) (sym (numbers_length g.met.S.Symbol.are_numbers a.d.now) ∙ p.len_difference)
+    ∙ ap margin_bytes (margins_firm (wide_code_by h.profile a.code a.positions.now) p.checks.table (state_by r (g.S.Symbol.numbers a.s.now) (g.S.Symbol.numbers a.d.now)) _ (ap (λ (m : ℕ). m + 1) each.ensures)
     (sym p.weighed ∙ c.if-end-eq0.true))

@@ -27,7 +27,7 @@ pub bounds-zeros-j : goal.bounds-zeros-j
 bounds-zeros-j g c = zeros_in c.requires.0 c.requires.4 c.loop-j.j c.loop-j.auto.j (omega (arith, c.requires.6)) _ c.requires.1
 
 pub overflow_add-n : goal.overflow_add-n
-overflow_add-n g c = omega (arith, zeros_below _ c.requires.0.table (g.S.WideSymbol.numbers c.args.s.now) _ c.requires.1 c.loop-j.j, c.zeros_of.ensures.1)
+overflow_add-n g c = omega (arith, zeros_below _ c.requires.0.table (g.S.Symbol.numbers c.args.s.now) _ c.requires.1 c.loop-j.j, c.zeros_of.ensures.1)
 
 pub margin_counted-m-requires : goal.margin_counted-m-requires
 margin_counted-m-requires g c =
@@ -39,25 +39,25 @@ margin_counted-m-requires g c =
 pub put_word-requires : goal.put_word-requires
 put_word-requires g c =
     let p = c.requires in
-    let n = g.met.S.WideSymbol.are_numbers in
+    let n = g.met.S.Symbol.are_numbers in
     omega (arith, (placed p.0 p.4 c.loop-j.j c.loop-j.auto.j (omega (arith, p.6))).inside, p.2, bytes_length c.loop-j.invariant, numbers_length n c.args.d.now)
 
 pub loop-j-preserved : goal.loop-j-preserved
 loop-j-preserved g c =
     let h = g.S.WideSymbol in
-    let n = g.met.S.WideSymbol.are_numbers in
+    let n = g.met.S.Symbol.are_numbers in
     let a = c.args in
     let p = c.requires in
     let j = c.loop-j.j in
     let q = place p.0 p.4 j c.loop-j.auto.j (omega (arith, p.6)) in
     let inside : j < length a.d.now = omega (arith, (placed p.0 p.4 j c.loop-j.auto.j (omega (arith, p.6))).inside, p.2) in
-    let in_numbers : j < length (h.numbers a.d.now) = omega (arith, inside, numbers_length n a.d.now) in
-    let read : h.number c.index-d-j.result ≡ get_or (h.numbers a.d.now) j 0 = number_read n a.d.now j inside c.index-d-j.is in
+    let in_numbers : j < length (g.S.Symbol.numbers a.d.now) = omega (arith, inside, numbers_length n a.d.now) in
+    let read : g.S.Symbol.number c.index-d-j.result ≡ get_or (g.S.Symbol.numbers a.d.now) j 0 = number_read n a.d.now j inside c.index-d-j.is in
     elim c.if-n-each.branch [
       | then-n-each w ↦
           bytes_turn c.loop-j.invariant in_numbers _ _
           (w.twos_of.ensures ∙ ap twos (read_back _ w.margin_counted-m.type_inv ∙ placed_margin q _ refl _ _ w.margin_counted-m.ensures
-          ∙ ap (λ (x : ℕ). margin (estimates_at (wide_code_by h.profile a.code a.positions.now) j x (h.numbers a.s.now))) read)) (w.out-is ∙ w.put_word.ensures)
+          ∙ ap (λ (x : ℕ). margin (estimates_at (wide_code_by h.profile a.code a.positions.now) j x (g.S.Symbol.numbers a.s.now))) read)) (w.out-is ∙ w.put_word.ensures)
       | else-n-each w ↦
           rw w.out-is (bytes_one c.loop-j.invariant in_numbers (omega (arith, c.zeros_of.ensures.0, ap (same 0) read, p.3, w.if-n-each.false)))
     ]

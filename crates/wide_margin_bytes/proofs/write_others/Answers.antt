@@ -26,12 +26,12 @@ loop-place-2-init g c = (branch_next c.requires.0.table c.loop-place.invariant.0
 pub past_firm-from-requires : goal.past_firm-from-requires
 past_firm-from-requires g c =
     let p = c.requires in
-    let n = numbers_length g.met.S.WideSymbol.are_numbers c.args.d.now in
+    let n = numbers_length g.met.S.Symbol.are_numbers c.args.d.now in
     let m = length_marked c.args.zeros.now _ _ p.4 in (
       omega arith,
       omega (arith, p.2, n, m, in_end p.0.table c.loop-place-2.invariant.0),
-      ap length p.1 ∙ length_zero_counts _ (g.S.WideSymbol.numbers c.args.s.now) ∙ sym p.2 ∙ sym n ∙ sym m,
-      zeros_below _ p.0.table (g.S.WideSymbol.numbers c.args.s.now) _ p.1,
+      ap length p.1 ∙ length_zero_counts _ (g.S.Symbol.numbers c.args.s.now) ∙ sym p.2 ∙ sym n ∙ sym m,
+      zeros_below _ p.0.table (g.S.Symbol.numbers c.args.s.now) _ p.1,
     )
 
 pub write_doubtful-requires : goal.write_doubtful-requires
@@ -41,7 +41,7 @@ write_doubtful-requires g c =
     let f = c.past_firm-from.ensures in
     let e = c.block_end-end.ensures in
     let w = c.loop-place-2.invariant in
-    let d = g.S.WideSymbol.numbers c.args.d.now in
+    let d = g.S.Symbol.numbers c.args.d.now in
     rw c.at.ensures (
       p.0,
       p.1,
@@ -51,7 +51,7 @@ write_doubtful-requires g c =
       e.0,
       e.1,
       bytes_past w.1 c.checks_each-checks.ensures (past_marked c.args.zeros.now d c.args.marks.now p.4 f)
-          (omega (arith, p.2, numbers_length g.met.S.WideSymbol.are_numbers c.args.d.now, in_end t w.0)),
+          (omega (arith, p.2, numbers_length g.met.S.Symbol.are_numbers c.args.d.now, in_end t w.0)),
     )
 
 pub loop-place-2-smaller : goal.loop-place-2-smaller
@@ -74,5 +74,5 @@ loop-place-preserved g c =
 
 pub returns : goal.returns
 returns g c r =
-    let n = numbers_length g.met.S.WideSymbol.are_numbers c.args.d.now in
+    let n = numbers_length g.met.S.Symbol.are_numbers c.args.d.now in
     bytes_all c.loop-place.invariant.1 (omega (arith, n)) ∙ ap margin_bytes (margins_are _ r _ _ _ (n ∙ c.requires.2))

@@ -9,7 +9,7 @@ abbrev pub invariant-loop-place-2 : goal.invariant-loop-place-2
 invariant-loop-place-2 g l =
     let h = g.S.WideSymbol in
     InBranch (wide_code_by h.profile l.code l.positions) l.initial.place l.place
-    × HeldBytes (wide_code_by h.profile l.code l.positions) l.zeros (h.numbers l.s) (h.numbers l.d) l.out l.place.symbol
+    × HeldBytes (wide_code_by h.profile l.code l.positions) l.zeros (g.S.Symbol.numbers l.s) (g.S.Symbol.numbers l.d) l.out l.place.symbol
 
 abbrev pub decreases-loop-place-2 : goal.decreases-loop-place-2
 decreases-loop-place-2 g l = l.place.end - l.place.symbol
@@ -18,7 +18,7 @@ abbrev pub invariant-loop-place : goal.invariant-loop-place
 invariant-loop-place g l =
     let h = g.S.WideSymbol in
     AtBranch (wide_code_by h.profile l.code l.positions) l.place
-    × HeldBytes (wide_code_by h.profile l.code l.positions) l.zeros (h.numbers l.s) (h.numbers l.d) l.out l.place.symbol
+    × HeldBytes (wide_code_by h.profile l.code l.positions) l.zeros (g.S.Symbol.numbers l.s) (g.S.Symbol.numbers l.d) l.out l.place.symbol
 
 abbrev pub decreases-loop-place : goal.decreases-loop-place
 decreases-loop-place g l = length l.d - l.place.symbol

@@ -12,5 +12,5 @@ returns-then-end-eq0 g c r =
     let a = c.args in
     let p = c.requires.0 in
     c.write_firm.ensures ∙ ap (λ (m : ℕ). map (λ j. pos (c.checks_each.result + 1) -ℤ pos 0) (tabulate m (λ j. j))) c.requires.1
-    ∙ margins_firm (wide_code_by h.profile a.code a.positions.now) p.checks.table (state_by r (h.numbers a.s.now) (h.numbers a.d.now)) _ (ap (λ (m : ℕ). m + 1) c.checks_each.ensures)
+    ∙ margins_firm (wide_code_by h.profile a.code a.positions.now) p.checks.table (state_by r (g.S.Symbol.numbers a.s.now) (g.S.Symbol.numbers a.d.now)) _ (ap (λ (m : ℕ). m + 1) c.checks_each.ensures)
     (sym p.weighed ∙ c.if-end-eq0.true)

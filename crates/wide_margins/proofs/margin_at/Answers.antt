@@ -21,23 +21,23 @@ counted {k} {ps} {s} a j own n z e f =
 
 pub overflow_add-zeros : goal.overflow_add-zeros
 overflow_add-zeros g c =
-    let k = counted c.requires.0 c.args.j (g.S.WideSymbol.number c.args.own) _ _ c.requires.2 c.zeros_of.ensures.0 in
-    omega (arith, k.zero-count, k.few, count_le 0 (estimates_by c.args.code.k c.args.positions.now c.args.j (g.S.WideSymbol.number c.args.own) (g.S.WideSymbol.numbers c.args.s.now)))
+    let k = counted c.requires.0 c.args.j (g.S.Symbol.number c.args.own) _ _ c.requires.2 c.zeros_of.ensures.0 in
+    omega (arith, k.zero-count, k.few, count_le 0 (estimates_by c.args.code.k c.args.positions.now c.args.j (g.S.Symbol.number c.args.own) (g.S.Symbol.numbers c.args.s.now)))
 
 pub returns-then-zeros-n : goal.returns-then-zeros-n
 returns-then-zeros-n g c =
-    let k = counted c.requires.0 c.args.j (g.S.WideSymbol.number c.args.own) _ _ c.requires.2 c.zeros_of.ensures.0 in
+    let k = counted c.requires.0 c.args.j (g.S.Symbol.number c.args.own) _ _ c.requires.2 c.zeros_of.ensures.0 in
     read_back _ c.margin_of.type_inv ∙ c.margin_of.ensures ∙ ap (λ (n : ℕ). pos n -ℤ pos 0) k.zero-count
     ∙ margin_firm _ (omega (arith, k.zero-count, k.len, c.if-zeros-n.true))
 
 pub returns-then-zeros-n-2 : goal.returns-then-zeros-n-2
 returns-then-zeros-n-2 g c =
-    let k = counted c.requires.0 c.args.j (g.S.WideSymbol.number c.args.own) _ _ c.requires.2 c.zeros_of.ensures.0 in
+    let k = counted c.requires.0 c.args.j (g.S.Symbol.number c.args.own) _ _ c.requires.2 c.zeros_of.ensures.0 in
     let m = c.margin_of-then-zeros-n-2 in
     read_back _ m.type_inv ∙ m.ensures ∙ ap (λ (n : ℕ). pos n -ℤ pos 1) k.zero-count
     ∙ margin_but_one _ (omega (arith, k.zero-count, k.len, c.if-zeros-n-2.true))
 
 pub margin_counted-requires : goal.margin_counted-requires
 margin_counted-requires g c =
-    let k = counted c.requires.0 c.args.j (g.S.WideSymbol.number c.args.own) _ _ c.requires.2 c.zeros_of.ensures.0 in
+    let k = counted c.requires.0 c.args.j (g.S.Symbol.number c.args.own) _ _ c.requires.2 c.zeros_of.ensures.0 in
     (c.requires.0, c.requires.1, k.zero-count)

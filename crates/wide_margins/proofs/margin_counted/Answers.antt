@@ -10,8 +10,8 @@ use Rattle.wide_margins.proofs.margin_counted.Goals as goal
 pub margin_of-requires : goal.margin_of-requires
 margin_of-requires g c =
     let a = c.args in
-    let s = g.S.WideSymbol.numbers a.s.now in
-    let own = g.S.WideSymbol.number a.own in
+    let s = g.S.Symbol.numbers a.s.now in
+    let own = g.S.Symbol.number a.own in
     let es : List ℕ = estimates_by a.code.k a.positions.now a.j own s in
     let few : length es ≤ 33 = omega (arith, estimates_length a.code.k a.positions.now a.j own s, c.requires.0.J-high) in
     (omega (arith, c.requires.2, few, count_le 0 es), omega (arith, c.most_other_at.ensures, others_few es, few))
@@ -20,6 +20,6 @@ pub returns : goal.returns
 unfolding margin
 returns g c =
     let a = c.args in
-    let es : List ℕ = estimates_by a.code.k a.positions.now a.j (g.S.WideSymbol.number a.own) (g.S.WideSymbol.numbers a.s.now) in
+    let es : List ℕ = estimates_by a.code.k a.positions.now a.j (g.S.Symbol.number a.own) (g.S.Symbol.numbers a.s.now) in
     read_back _ c.margin_of.type_inv ∙ c.margin_of.ensures ∙ ap (λ (n : ℕ). pos n -ℤ pos c.most_other_at.result) c.requires.2
     ∙ ap (λ (n : ℕ). pos (count 0 es) -ℤ pos n) c.most_other_at.ensures

@@ -50,10 +50,10 @@ loop-j-preserved g c =
     let j = c.loop-j.j in
     let w = own p.0 c.loop-place.invariant.0 (omega (arith, p.2)) in
     let inside = (placed p.0 w j c.loop-j.auto.j (omega arith)).inside in
-    let read = number_read g.met.S.WideSymbol.are_numbers a.d.now j (omega (arith, inside, p.2)) c.index-d-j.is in
+    let read = number_read g.met.S.Symbol.are_numbers a.d.now j (omega (arith, inside, p.2)) c.index-d-j.is in
     front_turn _ _ _ _ c.loop-j.invariant (omega (arith, inside, p.2)) _
     (read_back _ c.margin_at.type_inv ∙ placed_margin (place p.0 w j c.loop-j.auto.j (omega arith)) _ refl _ _ c.margin_at.ensures
-    ∙ ap (λ (x : ℕ). margin (estimates_at (wide_code_by h.profile a.code a.positions.now) j x (h.numbers a.s.now))) read)
+    ∙ ap (λ (x : ℕ). margin (estimates_at (wide_code_by h.profile a.code a.positions.now) j x (g.S.Symbol.numbers a.s.now))) read)
 
 pub loop-place-preserved : goal.loop-place-preserved
 loop-place-preserved g c =

@@ -8,13 +8,13 @@ use Rattle.wide_margins.proofs.write_margins.Given as goal
 abbrev pub invariant-loop-j : goal.invariant-loop-j
 invariant-loop-j g l =
     let h = g.S.WideSymbol in
-    Front (margin_of (wide_code_by h.profile l.code l.positions) (h.numbers l.s) (h.numbers l.d)) (length l.d) l.margins l.j
+    Front (margin_of (wide_code_by h.profile l.code l.positions) (g.S.Symbol.numbers l.s) (g.S.Symbol.numbers l.d)) (length l.d) l.margins l.j
 
 abbrev pub invariant-loop-place : goal.invariant-loop-place
 invariant-loop-place g l =
     let h = g.S.WideSymbol in
     AtBranch (wide_code_by h.profile l.code l.positions) l.place
-    × Front (margin_of (wide_code_by h.profile l.code l.positions) (h.numbers l.s) (h.numbers l.d)) (length l.d) l.margins l.place.symbol
+    × Front (margin_of (wide_code_by h.profile l.code l.positions) (g.S.Symbol.numbers l.s) (g.S.Symbol.numbers l.d)) (length l.d) l.margins l.place.symbol
 
 abbrev pub decreases-loop-place : goal.decreases-loop-place
 decreases-loop-place g l = length l.d - l.place.symbol

@@ -9,14 +9,14 @@ use Rattle.wide_page.proofs.encode.Goals as goal
 pub returns-then-number-ne0 : goal.returns-then-number-ne0
 unfolding encode_outcome
 returns-then-number-ne0 g c =
-    let n = g.met.S.WideSymbol.are_numbers in
+    let n = g.met.S.Symbol.are_numbers in
     let code = wide_code g.S.WideSymbol.profile c.args.k c.args.b c.args.positions.now in
     let number = encode_tested n code c.args.«data».now c.args.page.now _ _ (c.page_answer-number.ensures _ c.all_below.ensures) _ c.data_count-n.ensures c.two_fit-fits.ensures in
     record { outcome = left_as_lent _ _ _ _ number c.if-number-ne0.true; word = λ z. absurd (c.if-number-ne0.true z) }
 
 pub slice_bounds-copy_into-end : goal.slice_bounds-copy_into-end
 slice_bounds-copy_into-end g c =
-    let n = g.met.S.WideSymbol.are_numbers in
+    let n = g.met.S.Symbol.are_numbers in
     let code = wide_code g.S.WideSymbol.profile c.args.k c.args.b c.args.positions.now in
     let w = encode_taken n code c.args.«data».now c.args.page.now _ _ (c.page_answer-number.ensures _ c.all_below.ensures) _ c.data_count-n.ensures c.two_fit-fits.ensures
     c.if-number-ne0.false in
@@ -24,7 +24,7 @@ slice_bounds-copy_into-end g c =
 
 pub slice_bounds-copy_into-end-2 : goal.slice_bounds-copy_into-end-2
 slice_bounds-copy_into-end-2 g c =
-    let n = g.met.S.WideSymbol.are_numbers in
+    let n = g.met.S.Symbol.are_numbers in
     let code = wide_code g.S.WideSymbol.profile c.args.k c.args.b c.args.positions.now in
     let w = encode_taken n code c.args.«data».now c.args.page.now _ _ (c.page_answer-number.ensures _ c.all_below.ensures) _ c.data_count-n.ensures c.two_fit-fits.ensures
     c.if-number-ne0.false in
@@ -32,7 +32,7 @@ slice_bounds-copy_into-end-2 g c =
 
 pub copy_into-requires : goal.copy_into-requires
 copy_into-requires g c =
-    let n = g.met.S.WideSymbol.are_numbers in
+    let n = g.met.S.Symbol.are_numbers in
     let code = wide_code g.S.WideSymbol.profile c.args.k c.args.b c.args.positions.now in
     let w = encode_taken n code c.args.«data».now c.args.page.now _ _ (c.page_answer-number.ensures _ c.all_below.ensures) _ c.data_count-n.ensures c.two_fit-fits.ensures
     c.if-number-ne0.false in
@@ -40,7 +40,7 @@ copy_into-requires g c =
 
 pub write_checks-requires : goal.write_checks-requires
 write_checks-requires g c =
-    let n = g.met.S.WideSymbol.are_numbers in
+    let n = g.met.S.Symbol.are_numbers in
     let code = wide_code g.S.WideSymbol.profile c.args.k c.args.b c.args.positions.now in
     let w = encode_taken n code c.args.«data».now c.args.page.now _ _ (c.page_answer-number.ensures _ c.all_below.ensures) _ c.data_count-n.ensures c.two_fit-fits.ensures
     c.if-number-ne0.false in
@@ -50,7 +50,7 @@ write_checks-requires g c =
 pub returns : goal.returns
 unfolding encode_outcome
 returns g c =
-    let n = g.met.S.WideSymbol.are_numbers in
+    let n = g.met.S.Symbol.are_numbers in
     let code = wide_code g.S.WideSymbol.profile c.args.k c.args.b c.args.positions.now in
     let number = encode_tested n code c.args.«data».now c.args.page.now _ _ (c.page_answer-number.ensures _ c.all_below.ensures) _ c.data_count-n.ensures c.two_fit-fits.ensures in
     let w = encode_taken n code c.args.«data».now c.args.page.now _ _ (c.page_answer-number.ensures _ c.all_below.ensures) _ c.data_count-n.ensures c.two_fit-fits.ensures

@@ -11,7 +11,7 @@ use Rattle.wide_page.proofs.open.Goals as goal
 pub returns-then-number-ne0 : goal.returns-then-number-ne0
 unfolding open_outcome
 returns-then-number-ne0 g c =
-    let n = g.met.S.WideSymbol.are_numbers in
+    let n = g.met.S.Symbol.are_numbers in
     let a = c.args in
     let code = wide_code g.S.WideSymbol.profile a.k a.b a.positions.now in
     let number = open_tested n code a.page.now a.res.now a.syndrome.now a.difference.now _ _ (c.page_answer-number.ensures _ c.all_below.ensures) _ c.data_count-n.ensures
@@ -20,7 +20,7 @@ returns-then-number-ne0 g c =
 
 pub load_page-requires : goal.load_page-requires
 load_page-requires g c =
-    let n = g.met.S.WideSymbol.are_numbers in
+    let n = g.met.S.Symbol.are_numbers in
     let a = c.args in
     let code = wide_code g.S.WideSymbol.profile a.k a.b a.positions.now in
     let o = opens n code a.page.now a.res.now a.syndrome.now a.difference.now _ _ (c.page_answer-number.ensures _ c.all_below.ensures) _ c.data_count-n.ensures
@@ -29,7 +29,7 @@ load_page-requires g c =
 
 pub open_state-requires : goal.open_state-requires
 open_state-requires g c =
-    let n = g.met.S.WideSymbol.are_numbers in
+    let n = g.met.S.Symbol.are_numbers in
     let a = c.args in
     let code = wide_code g.S.WideSymbol.profile a.k a.b a.positions.now in
     let o = opens n code a.page.now a.res.now a.syndrome.now a.difference.now _ _ (c.page_answer-number.ensures _ c.all_below.ensures) _ c.data_count-n.ensures
@@ -41,7 +41,7 @@ open_state-requires g c =
 pub returns : goal.returns
 unfolding open_outcome
 returns g c =
-    let n = g.met.S.WideSymbol.are_numbers in
+    let n = g.met.S.Symbol.are_numbers in
     let a = c.args in
     let code = wide_code g.S.WideSymbol.profile a.k a.b a.positions.now in
     let number = open_tested n code a.page.now a.res.now a.syndrome.now a.difference.now _ _ (c.page_answer-number.ensures _ c.all_below.ensures) _ c.data_count-n.ensures

@@ -12,14 +12,14 @@ use Rattle.wide_page.proofs.syndrome.Goals as goal
 pub returns-then-number-ne0 : goal.returns-then-number-ne0
 unfolding syndrome_outcome
 returns-then-number-ne0 g c =
-    let n = g.met.S.WideSymbol.are_numbers in
+    let n = g.met.S.Symbol.are_numbers in
     let code = wide_code g.S.WideSymbol.profile c.args.k c.args.b c.args.positions.now in
     let number = syndrome_tested n code c.args.page.now c.args.s.now _ _ (c.page_answer-number.ensures _ c.all_below.ensures) _ c.data_count-n.ensures c.two_fit-fits.ensures in
     left_as_lent _ _ _ _ number c.if-number-ne0.true
 
 pub offset_bounds-page-n : goal.offset_bounds-page-n
 offset_bounds-page-n g c =
-    let n = g.met.S.WideSymbol.are_numbers in
+    let n = g.met.S.Symbol.are_numbers in
     let code = wide_code g.S.WideSymbol.profile c.args.k c.args.b c.args.positions.now in
     let w = syndrome_taken n code c.args.page.now c.args.s.now _ _ (c.page_answer-number.ensures _ c.all_below.ensures) _ c.data_count-n.ensures c.two_fit-fits.ensures
     c.if-number-ne0.false in
@@ -27,7 +27,7 @@ offset_bounds-page-n g c =
 
 pub slice_bounds-copy_into-count : goal.slice_bounds-copy_into-count
 slice_bounds-copy_into-count g c =
-    let n = g.met.S.WideSymbol.are_numbers in
+    let n = g.met.S.Symbol.are_numbers in
     let code = wide_code g.S.WideSymbol.profile c.args.k c.args.b c.args.positions.now in
     let w = syndrome_taken n code c.args.page.now c.args.s.now _ _ (c.page_answer-number.ensures _ c.all_below.ensures) _ c.data_count-n.ensures c.two_fit-fits.ensures
     c.if-number-ne0.false in
@@ -35,7 +35,7 @@ slice_bounds-copy_into-count g c =
 
 pub slice_bounds-copy_into-start : goal.slice_bounds-copy_into-start
 slice_bounds-copy_into-start g c =
-    let n = g.met.S.WideSymbol.are_numbers in
+    let n = g.met.S.Symbol.are_numbers in
     let code = wide_code g.S.WideSymbol.profile c.args.k c.args.b c.args.positions.now in
     let w = syndrome_taken n code c.args.page.now c.args.s.now _ _ (c.page_answer-number.ensures _ c.all_below.ensures) _ c.data_count-n.ensures c.two_fit-fits.ensures
     c.if-number-ne0.false in
@@ -43,7 +43,7 @@ slice_bounds-copy_into-start g c =
 
 pub copy_into-requires : goal.copy_into-requires
 copy_into-requires g c =
-    let n = g.met.S.WideSymbol.are_numbers in
+    let n = g.met.S.Symbol.are_numbers in
     let code = wide_code g.S.WideSymbol.profile c.args.k c.args.b c.args.positions.now in
     let w = syndrome_taken n code c.args.page.now c.args.s.now _ _ (c.page_answer-number.ensures _ c.all_below.ensures) _ c.data_count-n.ensures c.two_fit-fits.ensures
     c.if-number-ne0.false in
@@ -51,7 +51,7 @@ copy_into-requires g c =
 
 pub slice_bounds-write_syndrome-end : goal.slice_bounds-write_syndrome-end
 slice_bounds-write_syndrome-end g c =
-    let n = g.met.S.WideSymbol.are_numbers in
+    let n = g.met.S.Symbol.are_numbers in
     let code = wide_code g.S.WideSymbol.profile c.args.k c.args.b c.args.positions.now in
     let w = syndrome_taken n code c.args.page.now c.args.s.now _ _ (c.page_answer-number.ensures _ c.all_below.ensures) _ c.data_count-n.ensures c.two_fit-fits.ensures
     c.if-number-ne0.false in
@@ -59,7 +59,7 @@ slice_bounds-write_syndrome-end g c =
 
 pub write_syndrome-requires : goal.write_syndrome-requires
 write_syndrome-requires g c =
-    let n = g.met.S.WideSymbol.are_numbers in
+    let n = g.met.S.Symbol.are_numbers in
     let code = wide_code g.S.WideSymbol.profile c.args.k c.args.b c.args.positions.now in
     let w = syndrome_taken n code c.args.page.now c.args.s.now _ _ (c.page_answer-number.ensures _ c.all_below.ensures) _ c.data_count-n.ensures c.two_fit-fits.ensures
     c.if-number-ne0.false in
@@ -77,7 +77,7 @@ write_syndrome-requires g c =
 pub returns : goal.returns
 unfolding syndrome_outcome
 returns g c =
-    let n = g.met.S.WideSymbol.are_numbers in
+    let n = g.met.S.Symbol.are_numbers in
     let code = wide_code g.S.WideSymbol.profile c.args.k c.args.b c.args.positions.now in
     let number = syndrome_tested n code c.args.page.now c.args.s.now _ _ (c.page_answer-number.ensures _ c.all_below.ensures) _ c.data_count-n.ensures c.two_fit-fits.ensures in
     left_as_done _ _ _ _ (sym c.if-number-ne0.false ∙ number)

@@ -60,8 +60,8 @@ open_from-place-requires g c =
     let code = wide_code_by g.S.WideSymbol.profile c.args.code c.args.positions.now in
     let inside = in_end c.requires.0.usable.table v.here in (
       omega (arith, v.here.high, same_end v.here),
-      omega (arith, inside, ready.sized.len_difference, numbers_length g.met.S.WideSymbol.are_numbers c.loop-place.difference),
-      omega (arith, inside, ap length v.counted, length_zero_counts code (g.S.WideSymbol.numbers c.loop-place.syndrome)),
+      omega (arith, inside, ready.sized.len_difference, numbers_length g.met.S.Symbol.are_numbers c.loop-place.difference),
+      omega (arith, inside, ap length v.counted, length_zero_counts code (g.S.Symbol.numbers c.loop-place.syndrome)),
     )
 
 pub visit-tally-requires : goal.visit-tally-requires
@@ -98,7 +98,7 @@ loop-place-preserved g c =
 pub loop-branch-preserved : goal.loop-branch-preserved
 loop-branch-preserved g c =
     let a = c.args in
-    let numbers = g.S.WideSymbol.numbers in
+    let numbers = g.S.Symbol.numbers in
     let code = wide_code_by g.S.WideSymbol.profile a.code a.positions.now in
     let start = progress (numbers a.res.now) (numbers a.syndrome.now) (numbers a.difference.now) a.opened in
     let v = c.loop-place.invariant in

@@ -10,7 +10,7 @@ use Rattle.wide_passes.proofs.pass.Given as goal
 
 abbrev pub invariant-loop-branch : goal.invariant-loop-branch
 invariant-loop-branch g l =
-    let n = g.S.WideSymbol.numbers in
+    let n = g.S.Symbol.numbers in
     let c = wide_code_by g.S.WideSymbol.profile l.code l.positions in
     record {
       here : AtBranch c l.place;
@@ -22,7 +22,7 @@ invariant-loop-branch g l =
 
 abbrev pub invariant-loop-place : goal.invariant-loop-place
 invariant-loop-place g l =
-    let n = g.S.WideSymbol.numbers in
+    let n = g.S.Symbol.numbers in
     let c = wide_code_by g.S.WideSymbol.profile l.code l.positions in
     record {
       here : InBranch c l.initial.place l.place;

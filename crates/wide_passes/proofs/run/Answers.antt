@@ -14,17 +14,17 @@ marked s m n l e = e ∙ ap (λ (k : ℕ). tabulate k (λ i. differ (get_or s i 
 pub count_zeros-requires : goal.count_zeros-requires
 count_zeros-requires g c =
     let s = c.args.syndrome.now in
-    let m = marked (g.S.WideSymbol.numbers s) c.mark_into.new.marks (length s) (numbers_length g.met.S.WideSymbol.are_numbers s) c.mark_into.ensures in
+    let m = marked (g.S.Symbol.numbers s) c.mark_into.new.marks (length s) (numbers_length g.met.S.Symbol.are_numbers s) c.mark_into.ensures in
     (marks_at_table _ (at_table _ _ c.requires.0) m, c.requires.3, c.requires.4)
 
 pub run_counted-requires : goal.run_counted-requires
 run_counted-requires g c =
     let a = c.args in
     let s = a.syndrome.now in
-    let m = marked (g.S.WideSymbol.numbers s) c.mark_into.new.marks (length s) (numbers_length g.met.S.WideSymbol.are_numbers s) c.mark_into.ensures in (
+    let m = marked (g.S.Symbol.numbers s) c.mark_into.new.marks (length s) (numbers_length g.met.S.Symbol.are_numbers s) c.mark_into.ensures in (
       c.requires.0,
       c.requires.1,
       c.requires.2,
-      c.count_zeros.ensures ∙ marks_zeros _ _ (highest g.S.WideSymbol.profile) a.code.q a.code.k a.code.b a.positions.now (g.S.WideSymbol.numbers s) _ m,
+      c.count_zeros.ensures ∙ marks_zeros _ _ (highest g.S.WideSymbol.profile) a.code.q a.code.k a.code.b a.positions.now (g.S.Symbol.numbers s) _ m,
       m,
     )

@@ -16,7 +16,7 @@ pub loop-p-preserved-then-tally-before : goal.loop-p-preserved-then-tally-before
 loop-p-preserved-then-tally-before g c =
     let o = c.loop-p in
     let e = c.next_smaller-p.ensures in
-    let n = g.S.WideSymbol.numbers in
+    let n = g.S.Symbol.numbers in
     let code = wide_code_by g.S.WideSymbol.profile c.args.code c.args.positions.now in
     let x = progress (n c.pass-tally.new.res) (n c.pass-tally.new.syndrome) (n c.pass-tally.new.difference) c.pass-tally.result in
     record {
@@ -34,7 +34,7 @@ loop-p-preserved-then-tally-before g c =
 pub loop-p-preserved : goal.loop-p-preserved
 loop-p-preserved g c =
     let o = c.loop-p in
-    let n = g.S.WideSymbol.numbers in
+    let n = g.S.Symbol.numbers in
     let code = wide_code_by g.S.WideSymbol.profile c.args.code c.args.positions.now in
     let x = progress (n c.pass-tally.new.res) (n c.pass-tally.new.syndrome) (n c.pass-tally.new.difference) c.pass-tally.result in
     record {
@@ -51,7 +51,7 @@ pub returns-clause-ran : goal.returns-clause-ran
 unfolding run_of
 returns-clause-ran g c =
     let o = c.loop-p in
-    let n = g.S.WideSymbol.numbers in
+    let n = g.S.Symbol.numbers in
     let code = wide_code_by g.S.WideSymbol.profile c.args.code c.args.positions.now in
     let x = progress (n o.res) (n o.syndrome) (n o.difference) o.tally in
     rw c.passed.ensures

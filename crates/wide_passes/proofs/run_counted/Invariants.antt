@@ -10,7 +10,7 @@ use Rattle.wide_passes.proofs.run_counted.Given as goal
 
 abbrev pub invariant-loop-p : goal.invariant-loop-p
 invariant-loop-p g l =
-    let n = g.S.WideSymbol.numbers in
+    let n = g.S.Symbol.numbers in
     let c = wide_code_by g.S.WideSymbol.profile l.code l.positions in
     let start = progress (n l.fn.res) (n l.fn.syndrome) (n l.fn.difference) l.fn.opened in
     let now = progress (n l.res) (n l.syndrome) (n l.difference) l.tally in

@@ -53,9 +53,9 @@ unfolding pass_outcome
 returns-then-number-ne0-clause-outcome g c =
     let a = c.args in
     let w = g.S.WideSymbol in
-    let n = g.met.S.WideSymbol.are_numbers in
+    let n = g.met.S.Symbol.are_numbers in
     let code = wide_code_by w.profile a.code a.positions.now in
-    let lent = state_by (w.numbers a.res.now) (w.numbers a.syndrome.now) (w.numbers a.difference.now) in
+    let lent = state_by (g.S.Symbol.numbers a.res.now) (g.S.Symbol.numbers a.syndrome.now) (g.S.Symbol.numbers a.difference.now) in
     let e = c.pass_answer-number.ensures lent (state_low (highest w.profile) (omega (arith, wide_low g.met.S.WideSymbol.is_wide)) lent c.all_below.ensures c.all_below-2.ensures c.all_below-3.ensures) in
     let r = answered n code a.res.now a.syndrome.now a.difference.now a.threshold e c.state_fits-fits.ensures c.data_count-n.ensures in
     left_as_lent _ _ _ _ r c.if-number-ne0.true
@@ -64,9 +64,9 @@ pub overflow_cast-thresholds : goal.overflow_cast-thresholds
 overflow_cast-thresholds g c =
     let a = c.args in
     let w = g.S.WideSymbol in
-    let n = g.met.S.WideSymbol.are_numbers in
+    let n = g.met.S.Symbol.are_numbers in
     let code = wide_code_by w.profile a.code a.positions.now in
-    let lent = state_by (w.numbers a.res.now) (w.numbers a.syndrome.now) (w.numbers a.difference.now) in
+    let lent = state_by (g.S.Symbol.numbers a.res.now) (g.S.Symbol.numbers a.syndrome.now) (g.S.Symbol.numbers a.difference.now) in
     let e = c.pass_answer-number.ensures lent (state_low (highest w.profile) (omega (arith, wide_low g.met.S.WideSymbol.is_wide)) lent c.all_below.ensures c.all_below-2.ensures c.all_below-3.ensures) in
     let t = tested n code a.res.now a.syndrome.now a.difference.now a.threshold g.row.N e c.state_fits-fits.ensures c.data_count-n.ensures c.if-number-ne0.false c.requires.2 in
     omega (arith, t.taken.small)
@@ -75,9 +75,9 @@ pub whole_as_front-run : goal.whole_as_front-run
 whole_as_front-run g c =
     let a = c.args in
     let w = g.S.WideSymbol in
-    let n = g.met.S.WideSymbol.are_numbers in
+    let n = g.met.S.Symbol.are_numbers in
     let code = wide_code_by w.profile a.code a.positions.now in
-    let lent = state_by (w.numbers a.res.now) (w.numbers a.syndrome.now) (w.numbers a.difference.now) in
+    let lent = state_by (g.S.Symbol.numbers a.res.now) (g.S.Symbol.numbers a.syndrome.now) (g.S.Symbol.numbers a.difference.now) in
     let e = c.pass_answer-number.ensures lent (state_low (highest w.profile) (omega (arith, wide_low g.met.S.WideSymbol.is_wide)) lent c.all_below.ensures c.all_below-2.ensures c.all_below-3.ensures) in
     let t = tested n code a.res.now a.syndrome.now a.difference.now a.threshold g.row.N e c.state_fits-fits.ensures c.data_count-n.ensures c.if-number-ne0.false c.requires.2 in
     (t.room, omega arith)
@@ -86,9 +86,9 @@ pub whole_as_front-run-2 : goal.whole_as_front-run-2
 whole_as_front-run-2 g c =
     let a = c.args in
     let w = g.S.WideSymbol in
-    let n = g.met.S.WideSymbol.are_numbers in
+    let n = g.met.S.Symbol.are_numbers in
     let code = wide_code_by w.profile a.code a.positions.now in
-    let lent = state_by (w.numbers a.res.now) (w.numbers a.syndrome.now) (w.numbers a.difference.now) in
+    let lent = state_by (g.S.Symbol.numbers a.res.now) (g.S.Symbol.numbers a.syndrome.now) (g.S.Symbol.numbers a.difference.now) in
     let e = c.pass_answer-number.ensures lent (state_low (highest w.profile) (omega (arith, wide_low g.met.S.WideSymbol.is_wide)) lent c.all_below.ensures c.all_below-2.ensures c.all_below-3.ensures) in
     let t = tested n code a.res.now a.syndrome.now a.difference.now a.threshold g.row.N e c.state_fits-fits.ensures c.data_count-n.ensures c.if-number-ne0.false c.requires.2 in
     (t.mark-room, omega arith)
@@ -97,9 +97,9 @@ pub run-tally-requires : goal.run-tally-requires
 run-tally-requires g c =
     let a = c.args in
     let w = g.S.WideSymbol in
-    let n = g.met.S.WideSymbol.are_numbers in
+    let n = g.met.S.Symbol.are_numbers in
     let code = wide_code_by w.profile a.code a.positions.now in
-    let lent = state_by (w.numbers a.res.now) (w.numbers a.syndrome.now) (w.numbers a.difference.now) in
+    let lent = state_by (g.S.Symbol.numbers a.res.now) (g.S.Symbol.numbers a.syndrome.now) (g.S.Symbol.numbers a.difference.now) in
     let e = c.pass_answer-number.ensures lent (state_low (highest w.profile) (omega (arith, wide_low g.met.S.WideSymbol.is_wide)) lent c.all_below.ensures c.all_below-2.ensures c.all_below-3.ensures) in
     let t = tested n code a.res.now a.syndrome.now a.difference.now a.threshold g.row.N e c.state_fits-fits.ensures c.data_count-n.ensures c.if-number-ne0.false c.requires.2 in
     let long = length-replicate {A = ℕ} g.row.N 0 in (
@@ -116,9 +116,9 @@ unfolding pass_outcome
 returns-clause-outcome g c =
     let a = c.args in
     let w = g.S.WideSymbol in
-    let n = g.met.S.WideSymbol.are_numbers in
+    let n = g.met.S.Symbol.are_numbers in
     let code = wide_code_by w.profile a.code a.positions.now in
-    let lent = state_by (w.numbers a.res.now) (w.numbers a.syndrome.now) (w.numbers a.difference.now) in
+    let lent = state_by (g.S.Symbol.numbers a.res.now) (g.S.Symbol.numbers a.syndrome.now) (g.S.Symbol.numbers a.difference.now) in
     let e = c.pass_answer-number.ensures lent (state_low (highest w.profile) (omega (arith, wide_low g.met.S.WideSymbol.is_wide)) lent c.all_below.ensures c.all_below-2.ensures c.all_below-3.ensures) in
     let t = tested n code a.res.now a.syndrome.now a.difference.now a.threshold g.row.N e c.state_fits-fits.ensures c.data_count-n.ensures c.if-number-ne0.false c.requires.2 in
     let f = c.run-tally.ensures.ran in
@@ -128,9 +128,9 @@ pub returns-clause-falling : goal.returns-clause-falling
 returns-clause-falling g c =
     let a = c.args in
     let w = g.S.WideSymbol in
-    let n = g.met.S.WideSymbol.are_numbers in
+    let n = g.met.S.Symbol.are_numbers in
     let code = wide_code_by w.profile a.code a.positions.now in
-    let lent = state_by (w.numbers a.res.now) (w.numbers a.syndrome.now) (w.numbers a.difference.now) in
+    let lent = state_by (g.S.Symbol.numbers a.res.now) (g.S.Symbol.numbers a.syndrome.now) (g.S.Symbol.numbers a.difference.now) in
     let e = c.pass_answer-number.ensures lent (state_low (highest w.profile) (omega (arith, wide_low g.met.S.WideSymbol.is_wide)) lent c.all_below.ensures c.all_below-2.ensures c.all_below-3.ensures) in
     let t = tested n code a.res.now a.syndrome.now a.difference.now a.threshold g.row.N e c.state_fits-fits.ensures c.data_count-n.ensures c.if-number-ne0.false c.requires.2 in
     λ z. pass_falls code true a.threshold lent (sym t.done)

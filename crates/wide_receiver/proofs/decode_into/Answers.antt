@@ -55,9 +55,9 @@ unfolding decode_outcome
 returns-then-number-ne0 g c =
     let a = c.args in
     let w = g.S.WideSymbol in
-    let n = g.met.S.WideSymbol.are_numbers in
+    let n = g.met.S.Symbol.are_numbers in
     let code = wide_code_by w.profile a.code a.positions.now in
-    let e = c.decode_answer-number.ensures (w.numbers a.page.now) c.all_below.ensures in
+    let e = c.decode_answer-number.ensures (g.S.Symbol.numbers a.page.now) c.all_below.ensures in
     let r = answered n code a.page.now a.res.now a.syndrome.now a.difference.now a.thresholds.now a.margins.now e c.decode_fits-fits.ensures c.data_count-n.ensures in
     rw c.opened.ensures (left_as_lent _ _ _ _ r c.if-number-ne0.true)
 
@@ -65,9 +65,9 @@ pub load_page-requires : goal.load_page-requires
 load_page-requires g c =
     let a = c.args in
     let w = g.S.WideSymbol in
-    let n = g.met.S.WideSymbol.are_numbers in
+    let n = g.met.S.Symbol.are_numbers in
     let code = wide_code_by w.profile a.code a.positions.now in
-    let e = c.decode_answer-number.ensures (w.numbers a.page.now) c.all_below.ensures in
+    let e = c.decode_answer-number.ensures (g.S.Symbol.numbers a.page.now) c.all_below.ensures in
     let t = tested n code a.page.now a.res.now a.syndrome.now a.difference.now a.thresholds.now a.margins.now a.zeros.now a.marks.now e c.decode_fits-fits.ensures c.data_count-n.ensures
     c.if-number-ne0.false c.requires.2 c.requires.4 in
     let o = t.taken.opens in
@@ -77,9 +77,9 @@ pub slice_bounds-decode_state-end : goal.slice_bounds-decode_state-end
 slice_bounds-decode_state-end g c =
     let a = c.args in
     let w = g.S.WideSymbol in
-    let n = g.met.S.WideSymbol.are_numbers in
+    let n = g.met.S.Symbol.are_numbers in
     let code = wide_code_by w.profile a.code a.positions.now in
-    let e = c.decode_answer-number.ensures (w.numbers a.page.now) c.all_below.ensures in
+    let e = c.decode_answer-number.ensures (g.S.Symbol.numbers a.page.now) c.all_below.ensures in
     let t = tested n code a.page.now a.res.now a.syndrome.now a.difference.now a.thresholds.now a.margins.now a.zeros.now a.marks.now e c.decode_fits-fits.ensures c.data_count-n.ensures
     c.if-number-ne0.false c.requires.2 c.requires.4 in
     t.room
@@ -88,9 +88,9 @@ pub slice_bounds-decode_state-end-2 : goal.slice_bounds-decode_state-end-2
 slice_bounds-decode_state-end-2 g c =
     let a = c.args in
     let w = g.S.WideSymbol in
-    let n = g.met.S.WideSymbol.are_numbers in
+    let n = g.met.S.Symbol.are_numbers in
     let code = wide_code_by w.profile a.code a.positions.now in
-    let e = c.decode_answer-number.ensures (w.numbers a.page.now) c.all_below.ensures in
+    let e = c.decode_answer-number.ensures (g.S.Symbol.numbers a.page.now) c.all_below.ensures in
     let t = tested n code a.page.now a.res.now a.syndrome.now a.difference.now a.thresholds.now a.margins.now a.zeros.now a.marks.now e c.decode_fits-fits.ensures c.data_count-n.ensures
     c.if-number-ne0.false c.requires.2 c.requires.4 in
     sym (length-take-le _ _ t.room)
@@ -99,9 +99,9 @@ pub slice_bounds-decode_state-end-3 : goal.slice_bounds-decode_state-end-3
 slice_bounds-decode_state-end-3 g c =
     let a = c.args in
     let w = g.S.WideSymbol in
-    let n = g.met.S.WideSymbol.are_numbers in
+    let n = g.met.S.Symbol.are_numbers in
     let code = wide_code_by w.profile a.code a.positions.now in
-    let e = c.decode_answer-number.ensures (w.numbers a.page.now) c.all_below.ensures in
+    let e = c.decode_answer-number.ensures (g.S.Symbol.numbers a.page.now) c.all_below.ensures in
     let t = tested n code a.page.now a.res.now a.syndrome.now a.difference.now a.thresholds.now a.margins.now a.zeros.now a.marks.now e c.decode_fits-fits.ensures c.data_count-n.ensures
     c.if-number-ne0.false c.requires.2 c.requires.4 in
     t.mark-room
@@ -110,9 +110,9 @@ pub slice_bounds-decode_state-end-4 : goal.slice_bounds-decode_state-end-4
 slice_bounds-decode_state-end-4 g c =
     let a = c.args in
     let w = g.S.WideSymbol in
-    let n = g.met.S.WideSymbol.are_numbers in
+    let n = g.met.S.Symbol.are_numbers in
     let code = wide_code_by w.profile a.code a.positions.now in
-    let e = c.decode_answer-number.ensures (w.numbers a.page.now) c.all_below.ensures in
+    let e = c.decode_answer-number.ensures (g.S.Symbol.numbers a.page.now) c.all_below.ensures in
     let t = tested n code a.page.now a.res.now a.syndrome.now a.difference.now a.thresholds.now a.margins.now a.zeros.now a.marks.now e c.decode_fits-fits.ensures c.data_count-n.ensures
     c.if-number-ne0.false c.requires.2 c.requires.4 in
     sym (length-take-le _ _ t.mark-room)
@@ -121,13 +121,13 @@ pub decode_state-tally-requires : goal.decode_state-tally-requires
 decode_state-tally-requires g c =
     let a = c.args in
     let w = g.S.WideSymbol in
-    let n = g.met.S.WideSymbol.are_numbers in
+    let n = g.met.S.Symbol.are_numbers in
     let code = wide_code_by w.profile a.code a.positions.now in
-    let e = c.decode_answer-number.ensures (w.numbers a.page.now) c.all_below.ensures in
+    let e = c.decode_answer-number.ensures (g.S.Symbol.numbers a.page.now) c.all_below.ensures in
     let t = tested n code a.page.now a.res.now a.syndrome.now a.difference.now a.thresholds.now a.margins.now a.zeros.now a.marks.now e c.decode_fits-fits.ensures c.data_count-n.ensures
     c.if-number-ne0.false c.requires.2 c.requires.4 in
     let l = c.load_page in (
-      taken_loaded code (w.numbers a.page.now) (w.numbers a.res.now) (w.numbers a.syndrome.now) (w.numbers a.difference.now) _ _ l.ensures
+      taken_loaded code (g.S.Symbol.numbers a.page.now) (g.S.Symbol.numbers a.res.now) (g.S.Symbol.numbers a.syndrome.now) (g.S.Symbol.numbers a.difference.now) _ _ l.ensures
           (omega (arith, numbers_length n l.new.res, numbers_length n a.res.now, l.auto.res)) (omega (arith, numbers_length n l.new.s, numbers_length n a.syndrome.now, l.auto.s))
           a.thresholds.now t.taken,
       length-take-le _ _ t.room ∙ t.counted,
@@ -139,16 +139,16 @@ pub fill-requires : goal.fill-requires
 fill-requires g c =
     let a = c.args in
     let w = g.S.WideSymbol in
-    let n = g.met.S.WideSymbol.are_numbers in
+    let n = g.met.S.Symbol.are_numbers in
     let code = wide_code_by w.profile a.code a.positions.now in
-    let e = c.decode_answer-number.ensures (w.numbers a.page.now) c.all_below.ensures in
+    let e = c.decode_answer-number.ensures (g.S.Symbol.numbers a.page.now) c.all_below.ensures in
     let t = tested n code a.page.now a.res.now a.syndrome.now a.difference.now a.thresholds.now a.margins.now a.zeros.now a.marks.now e c.decode_fits-fits.ensures c.data_count-n.ensures
     c.if-number-ne0.false c.requires.2 c.requires.4 in
     let made = c.decode_state-tally.ensures.done ∙ ap (decoded code a.thresholds.now) c.load_page.ensures in
     let zeros : List ℕ = c.decode_state-tally.new.zeros ++ drop c.data_count-n.result a.zeros.now in
     let room : data_count code ≤ length zeros =
     omega (arith, t.room, t.counted, length-append c.decode_state-tally.new.zeros (drop c.data_count-n.result a.zeros.now), length-drop c.data_count-n.result a.zeros.now, c.decode_state-tally.auto.zeros, length-take-le c.data_count-n.result a.zeros.now t.room) in (
-      left_by code (w.numbers a.page.now) a.thresholds.now t.taken.opens.usable t.taken.opens.whole _ zeros made room
+      left_by code (g.S.Symbol.numbers a.page.now) a.thresholds.now t.taken.opens.usable t.taken.opens.whole _ zeros made room
           (λ m.
           let z = c.decode_state-tally.ensures.counted m in
           take_at _ _ _ (ap length z ∙ length_zero_counts _ _) ∙ z),
@@ -160,9 +160,9 @@ unfolding decode_outcome
 returns g c =
     let a = c.args in
     let w = g.S.WideSymbol in
-    let n = g.met.S.WideSymbol.are_numbers in
+    let n = g.met.S.Symbol.are_numbers in
     let code = wide_code_by w.profile a.code a.positions.now in
-    let e = c.decode_answer-number.ensures (w.numbers a.page.now) c.all_below.ensures in
+    let e = c.decode_answer-number.ensures (g.S.Symbol.numbers a.page.now) c.all_below.ensures in
     let t = tested n code a.page.now a.res.now a.syndrome.now a.difference.now a.thresholds.now a.margins.now a.zeros.now a.marks.now e c.decode_fits-fits.ensures c.data_count-n.ensures
     c.if-number-ne0.false c.requires.2 c.requires.4 in
     let made = c.decode_state-tally.ensures.done ∙ ap (decoded code a.thresholds.now) c.load_page.ensures in

@@ -7,9 +7,9 @@ use Rattle.wide_rows.proofs.less_row.Goals as goal
 
 pub returns : goal.returns
 returns g c =
-    let n = g.met.S.WideSymbol.are_numbers in
-    let s = g.S.WideSymbol.numbers c.args.acc.now in
-    let u = g.S.WideSymbol.numbers c.args.src.now in
+    let n = g.met.S.Symbol.are_numbers in
+    let s = g.S.Symbol.numbers c.args.acc.now in
+    let u = g.S.Symbol.numbers c.args.src.now in
     numbers_both n _ _ _ _
     ∙ lessened_row c.args.p s u (omega (arith, numbers_length n c.args.acc.now, numbers_length n c.args.src.now)) (omega (arith, numbers_length n c.args.src.now))
     (highest g.S.WideSymbol.profile) _ _

@@ -6,4 +6,4 @@ use Rattle.theory.specs.Written.{Written}
 use Rattle.wide_symbols.proofs.add_two_into.Given as goal
 
 abbrev pub invariant-loop-i : goal.invariant-loop-i
-invariant-loop-i g l = let s = g.S.WideSymbol in Written (λ k x. add (highest s.profile) (add (highest s.profile) x (get_or (s.numbers l.xs) k 0)) (get_or (s.numbers l.ys) k 0)) (s.numbers l.initial.acc) l.i (s.numbers l.acc)
+invariant-loop-i g l = let s = g.S.WideSymbol in Written (λ k x. add (highest s.profile) (add (highest s.profile) x (get_or (g.S.Symbol.numbers l.xs) k 0)) (get_or (g.S.Symbol.numbers l.ys) k 0)) (g.S.Symbol.numbers l.initial.acc) l.i (g.S.Symbol.numbers l.acc)

@@ -9,8 +9,8 @@ loop-x-init g c = opened _ _
 
 pub loop-x-preserved : goal.loop-x-preserved
 loop-x-preserved g c =
-    let n = g.met.S.WideSymbol.are_numbers in
+    let n = g.met.S.Symbol.are_numbers in
     turned_symbols n c.loop-x.invariant c.x-item.result (omega arith) c.narrowed-zero.ensures
 
 pub returns : goal.returns
-returns g c = let n = g.met.S.WideSymbol.are_numbers in closed_symbols n c.loop-x.invariant (omega arith) (numbers_length n c.args.s.now)
+returns g c = let n = g.met.S.Symbol.are_numbers in closed_symbols n c.loop-x.invariant (omega arith) (numbers_length n c.args.s.now)

@@ -10,10 +10,10 @@ loop-i-init g c = opened _ _
 
 pub loop-i-preserved : goal.loop-i-preserved
 loop-i-preserved g c =
-    let n = g.met.S.WideSymbol.are_numbers in
+    let n = g.met.S.Symbol.are_numbers in
     turned_symbols n c.loop-i.invariant c.index-src-i.result (omega arith) (number_read n c.args.src.now c.loop-i.i (omega arith) c.index-src-i.is)
 
 pub returns : goal.returns
 returns g c =
-    let n = g.met.S.WideSymbol.are_numbers in
+    let n = g.met.S.Symbol.are_numbers in
     closed_symbols n c.loop-i.invariant (omega arith) (omega (arith, numbers_length n c.args.dst.now, numbers_length n c.args.src.now)) ∙ tabulate_get_d _

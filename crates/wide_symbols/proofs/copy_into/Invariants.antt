@@ -4,4 +4,4 @@ use Rattle.theory.specs.Written.{Written}
 use Rattle.wide_symbols.proofs.copy_into.Given as goal
 
 abbrev pub invariant-loop-i : goal.invariant-loop-i
-invariant-loop-i g l = let s = g.S.WideSymbol in Written (λ k x. get_or (s.numbers l.src) k 0) (s.numbers l.initial.dst) l.i (s.numbers l.dst)
+invariant-loop-i g l = Written (λ k x. get_or (g.S.Symbol.numbers l.src) k 0) (g.S.Symbol.numbers l.initial.dst) l.i (g.S.Symbol.numbers l.dst)

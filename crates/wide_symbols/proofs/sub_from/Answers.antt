@@ -11,13 +11,13 @@ loop-i-init g c = opened _ _
 
 pub loop-i-preserved : goal.loop-i-preserved
 loop-i-preserved g c =
-    let n = g.met.S.WideSymbol.are_numbers in
+    let n = g.met.S.Symbol.are_numbers in
     let h = g.S.WideSymbol in
     turned_symbols n c.loop-i.invariant _ (omega arith)
-    (c.sub_wrap.ensures ∙ ap (λ x. sub (highest h.profile) x (h.number (get_or c.loop-i.acc c.loop-i.i c.index-acc-i.result))) (number_read n c.args.src.now c.loop-i.i (omega arith) c.index-src-i.is))
+    (c.sub_wrap.ensures ∙ ap (λ x. sub (highest h.profile) x (g.S.Symbol.number (get_or c.loop-i.acc c.loop-i.i c.index-acc-i.result))) (number_read n c.args.src.now c.loop-i.i (omega arith) c.index-src-i.is))
 
 pub returns : goal.returns
 unfolding sub_each
 returns g c =
-    let n = g.met.S.WideSymbol.are_numbers in
+    let n = g.met.S.Symbol.are_numbers in
     closed_symbols n c.loop-i.invariant (omega arith) (omega (arith, numbers_length n c.args.acc.now, numbers_length n c.args.src.now))

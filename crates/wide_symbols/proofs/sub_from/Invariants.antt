@@ -6,4 +6,4 @@ use Rattle.theory.specs.Written.{Written}
 use Rattle.wide_symbols.proofs.sub_from.Given as goal
 
 abbrev pub invariant-loop-i : goal.invariant-loop-i
-invariant-loop-i g l = let s = g.S.WideSymbol in Written (λ k x. sub (highest s.profile) (get_or (s.numbers l.src) k 0) x) (s.numbers l.initial.acc) l.i (s.numbers l.acc)
+invariant-loop-i g l = let s = g.S.WideSymbol in Written (λ k x. sub (highest s.profile) (get_or (g.S.Symbol.numbers l.src) k 0) x) (g.S.Symbol.numbers l.initial.acc) l.i (g.S.Symbol.numbers l.acc)

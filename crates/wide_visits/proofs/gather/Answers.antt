@@ -9,22 +9,21 @@ pub loop-i-init : goal.loop-i-init
 loop-i-init g c =
     let a = c.args in
     ap (λ (x : ℕ). take (0 + 1) (set a.es.now 0 x)) c.widened.ensures
-    ∙ gather_none (g.S.WideSymbol.numbers a.s.now) a.code.k a.positions.now a.j (g.S.WideSymbol.number a.own) a.es.now (omega arith)
+    ∙ gather_none (g.S.Symbol.numbers a.s.now) a.code.k a.positions.now a.j (g.S.Symbol.number a.own) a.es.now (omega arith)
 
 pub loop-i-preserved : goal.loop-i-preserved
 loop-i-preserved g c =
     let a = c.args in
     let l = c.loop-i in
-    let n = g.met.S.WideSymbol.are_numbers in
-    let s : List ℕ = g.S.WideSymbol.numbers a.s.now in
+    let n = g.met.S.Symbol.are_numbers in
+    let s : List ℕ = g.S.Symbol.numbers a.s.now in
     let inside : c.check_of-c.result < length a.s.now = omega (arith, check_inside c.requires.0 _ _ c.check_of-c.ensures, numbers_length n a.s.now) in
     ap (λ (x : ℕ). take (l.i + 1 + 1) (set l.es (l.i + 1) x)) (c.widened-in-loop-i.ensures ∙ number_read n a.s.now c.check_of-c.result inside c.index-s-c.is)
-    ∙ gather_turn s a.code.k a.positions.now a.j (g.S.WideSymbol.number a.own) l.i c.check_of-c.result l.es (omega arith) (omega (arith, length-set a.es.now 0 c.widened.result)) c.check_of-c.ensures l.invariant
+    ∙ gather_turn s a.code.k a.positions.now a.j (g.S.Symbol.number a.own) l.i c.check_of-c.result l.es (omega arith) (omega (arith, length-set a.es.now 0 c.widened.result)) c.check_of-c.ensures l.invariant
 
 pub returns : goal.returns
 returns g c =
     let a = c.args in
     let l = c.loop-i in
-    let s = g.S.WideSymbol in
     sym (take_all (l.i + 1) l.es (omega (arith, length-set a.es.now 0 c.widened.result))) ∙ l.invariant
-    ∙ ap (λ (ps : List ℕ). s.number a.own ∷ symbols_at (s.numbers a.s.now) (checks_by a.code.k ps a.j)) (take_all l.i a.positions.now (omega arith))
+    ∙ ap (λ (ps : List ℕ). g.S.Symbol.number a.own ∷ symbols_at (g.S.Symbol.numbers a.s.now) (checks_by a.code.k ps a.j)) (take_all l.i a.positions.now (omega arith))

@@ -6,5 +6,4 @@ use Rattle.wide_visits.proofs.gather.Given as goal
 
 abbrev pub invariant-loop-i : goal.invariant-loop-i
 invariant-loop-i g l =
-    let s = g.S.WideSymbol in
-    take (l.i + 1) l.es ≡ s.number l.fn.own ∷ symbols_at (s.numbers l.s) (checks_by l.code.k (take l.i l.positions) l.j)
+    take (l.i + 1) l.es ≡ g.S.Symbol.number l.fn.own ∷ symbols_at (g.S.Symbol.numbers l.s) (checks_by l.code.k (take l.i l.positions) l.j)

@@ -24,7 +24,7 @@ write_check-requires g c =
     let l = c.loop-p in
     let f = found c.requires.0 c.requires.1 in
     let v = l.invariant in
-    let s : List ℕ = g.S.WideSymbol.numbers l.s in (
+    let s : List ℕ = g.S.Symbol.numbers l.s in (
       marks_at_table _ (at_table_of c.requires.0 s v.subtracted.sized) v.marked,
       f.each,
       omega (arith, check_inside f.checks_lent _ _ c.check_of-c.ensures, f.checks_lent.len),
@@ -36,14 +36,14 @@ loop-p-preserved g c =
     let a = c.args in
     let l = c.loop-p in
     let f = found c.requires.0 c.requires.1 in
-    let n = g.met.S.WideSymbol.are_numbers in
+    let n = g.met.S.Symbol.are_numbers in
     let w = g.S.WideSymbol in
-    let s : List ℕ = w.numbers l.s in
+    let s : List ℕ = g.S.Symbol.numbers l.s in
     let at : ℕ = c.check_of-c.result in
-    let v : ℕ = w.number c.sub_wrap-v.result in
+    let v : ℕ = g.S.Symbol.number c.sub_wrap-v.result in
     let inside : at < length s = check_inside (at_checks_of f.checks_lent s l.invariant.subtracted.sized) _ _ c.check_of-c.ensures in
     let written = numbers_set n l.s at c.sub_wrap-v.result in
-    let taken = c.sub_wrap-v.ensures ∙ ap (λ (x : ℕ). sub (highest w.profile) x (w.number a.h)) (number_read n l.s at (omega (arith, inside, numbers_length n l.s)) c.index-s-c.is) in
+    let taken = c.sub_wrap-v.ensures ∙ ap (λ (x : ℕ). sub (highest w.profile) x (g.S.Symbol.number a.h)) (number_read n l.s at (omega (arith, inside, numbers_length n l.s)) c.index-s-c.is) in
     let made = c.write_check.ensures.0 ∙ ap (λ (x : List ℕ). set x at c.mark.result) l.invariant.marked ∙ ap (set (marks_of s) at) c.mark.ensures ∙ marks_set s at v inside
     ∙ ap marks_of (sym written) in
     record {
@@ -58,7 +58,7 @@ returns g c =
     let l = c.loop-p in
     let f = found c.requires.0 c.requires.1 in
     let w = g.S.WideSymbol in (
-      subtract_all l.invariant.subtracted (omega arith) ∙ ap (λ (is : List ℕ). subtract_at (highest w.profile) (w.number a.h) is (w.numbers a.s.now)) f.checks_are,
+      subtract_all l.invariant.subtracted (omega arith) ∙ ap (λ (is : List ℕ). subtract_at (highest w.profile) (g.S.Symbol.number a.h) is (g.S.Symbol.numbers a.s.now)) f.checks_are,
       l.invariant.counted,
       l.invariant.marked,
     )

@@ -11,7 +11,7 @@ abbrev pub invariant-loop-p : goal.invariant-loop-p
 invariant-loop-p g l =
     let w = g.S.WideSymbol in
     record {
-      subtracted : Subtracted (highest w.profile) (w.number l.h) l.code.k (take (l.fn.place.last - l.fn.place.first) (drop l.fn.place.first l.positions)) l.index (w.numbers l.initial.s) l.p-index (w.numbers l.s);
-      counted : l.zeros ≡ zero_counts (wide_code_by w.profile l.code l.positions) (w.numbers l.s);
-      marked : l.marks ≡ marks_of (w.numbers l.s);
+      subtracted : Subtracted (highest w.profile) (g.S.Symbol.number l.h) l.code.k (take (l.fn.place.last - l.fn.place.first) (drop l.fn.place.first l.positions)) l.index (g.S.Symbol.numbers l.initial.s) l.p-index (g.S.Symbol.numbers l.s);
+      counted : l.zeros ≡ zero_counts (wide_code_by w.profile l.code l.positions) (g.S.Symbol.numbers l.s);
+      marked : l.marks ≡ marks_of (g.S.Symbol.numbers l.s);
     }

@@ -1,0 +1,2 @@
+-- What symbols of any width stand for.
+pub mod Numbers
