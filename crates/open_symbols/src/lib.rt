@@ -5,14 +5,15 @@ ghost use Rattle.std.specs.Prelude.{◌≡◌, true, false, ℕ, ◌+◌, ◌<�
 ghost use Rattle.model.specs.Symbols.{same};
 ghost use Rattle.open_symbols.specs.Settled.{Open, Settled, Settling, Past, FirstOpen, OpenFrom};
 
+use any_symbols::Symbol;
 use checks::Place;
 
 // Whether a data symbol's visit is not settled by the zeros at its checks: counted twice, with its own difference among them, they and
 // the threshold are at most J.
-fn is_open(each: usize, threshold: u8, own: u8, zeros: u8) -> bool
-    ensures { result ≡ leb (zeros + same 0 own + (zeros + same 0 own) + threshold) each }
+fn is_open<S: Symbol>(each: usize, threshold: u8, own: S, zeros: u8) -> bool
+    ensures { result ≡ leb (zeros + same 0 (S.number own) + (zeros + same 0 (S.number own)) + threshold) each }
 {
-    let n = (zeros as usize) + (symbols::equal(0, own) as usize);
+    let n = (zeros as usize) + (own.zeros() as usize);
     n + n + (threshold as usize) <= each
 }
 
@@ -28,17 +29,17 @@ pub fn settling(each: usize, threshold: u8) -> usize
 }
 
 // Whether a data symbol's visit is not settled. Its own difference is read only where the zeros at its checks are below a number that settles it.
-fn is_open_at(
+fn is_open_at<S: Symbol>(
     each: usize,
     threshold: u8,
     bound: usize,
-    difference: &[u8],
+    difference: &[S],
     zeros: &[u8],
     j: usize,
 ) -> bool
     requires { Settling each threshold bound × (j < length difference.now) × (j < length zeros.now) }
-    ensures open { result ≡ true → Open each threshold difference.now zeros.now j }
-    ensures settled { result ≡ false → Settled each threshold difference.now zeros.now j }
+    ensures open { result ≡ true → Open each threshold (S.numbers difference.now) zeros.now j }
+    ensures settled { result ≡ false → Settled each threshold (S.numbers difference.now) zeros.now j }
 {
     let n = zeros[j];
     if bound <= (n as usize) {
@@ -48,11 +49,11 @@ fn is_open_at(
 }
 
 // The first data symbol from one on, and before the end, that the zeros do not settle, or the end. Two are looked at in a turn.
-fn open_within(
+fn open_within<S: Symbol>(
     each: usize,
     threshold: u8,
     bound: usize,
-    difference: &[u8],
+    difference: &[S],
     zeros: &[u8],
     from: usize,
     end: usize,
@@ -61,8 +62,8 @@ fn open_within(
         × (from ≤ end)
         × (end ≤ length difference.now)
         × (end ≤ length zeros.now) }
-    ensures passed { FirstOpen each threshold difference.now zeros.now from end result }
-    ensures found { result < end → Open each threshold difference.now zeros.now result }
+    ensures passed { FirstOpen each threshold (S.numbers difference.now) zeros.now from end result }
+    ensures found { result < end → Open each threshold (S.numbers difference.now) zeros.now result }
 {
     let mut j = from;
     // kept: two in a turn, which a `for` over the symbols is not: a search that may end early is not unrolled.
@@ -84,17 +85,17 @@ fn open_within(
 }
 
 // Whether a data symbol before the end is there and its visit is not settled.
-fn is_open_before(
+fn is_open_before<S: Symbol>(
     each: usize,
     threshold: u8,
     bound: usize,
-    difference: &[u8],
+    difference: &[S],
     zeros: &[u8],
     j: usize,
     end: usize,
 ) -> bool
     requires { Settling each threshold bound × (end ≤ length difference.now) × (end ≤ length zeros.now) }
-    ensures { result ≡ true → Open each threshold difference.now zeros.now j }
+    ensures { result ≡ true → Open each threshold (S.numbers difference.now) zeros.now j }
 {
     if j < end {
         return is_open_at(each, threshold, bound, difference, zeros, j);
@@ -137,17 +138,17 @@ pub fn end_near(from: usize, end: usize) -> usize
 
 // The same. On a page with much damage it is mostly the first, which is looked at by itself. Then the next 32 are looked at one by one;
 // then blocks are passed whole, as far as a number of zeros at the checks settles all their symbols; and so on.
-fn first_open(
+fn first_open<S: Symbol>(
     each: usize,
     threshold: u8,
-    difference: &[u8],
+    difference: &[S],
     zeros: &[u8],
     from: usize,
     end: usize,
 ) -> usize
     requires { (from ≤ end) × (end ≤ length difference.now) × (end ≤ length zeros.now) }
-    ensures passed { FirstOpen each threshold difference.now zeros.now from end result }
-    ensures found { result < end → Open each threshold difference.now zeros.now result }
+    ensures passed { FirstOpen each threshold (S.numbers difference.now) zeros.now from end result }
+    ensures found { result < end → Open each threshold (S.numbers difference.now) zeros.now result }
 {
     let bound = settling(each, threshold);
     if is_open_before(each, threshold, bound, difference, zeros, from, end) {
@@ -168,9 +169,15 @@ fn first_open(
 
 // The first place of a branch, from one on, that the zeros do not settle, or the one after its last symbol: the visits to those
 // before it change nothing.
-pub fn open_from(place: Place, each: usize, threshold: u8, difference: &[u8], zeros: &[u8]) -> Place
+pub fn open_from<S: Symbol>(
+    place: Place,
+    each: usize,
+    threshold: u8,
+    difference: &[S],
+    zeros: &[u8],
+) -> Place
     requires { (place.symbol ≤ place.end) × (place.end ≤ length difference.now) × (place.end ≤ length zeros.now) }
-    ensures { OpenFrom each threshold difference.now zeros.now place result }
+    ensures { OpenFrom each threshold (S.numbers difference.now) zeros.now place result }
 {
     place.at(first_open(each, threshold, difference, zeros, place.symbol, place.end))
 }

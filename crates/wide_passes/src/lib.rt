@@ -45,7 +45,7 @@ fn pass<S: WideSymbol>(
     for _branch in 0..code.b {
         // The loop is kept: which symbol is next depends on the zeros.
         loop {
-            place = wide_open_symbols::open_from(place, each, threshold, difference, zeros);
+            place = open_symbols::open_from(place, each, threshold, difference, zeros);
             if place.end <= place.symbol {
                 break;
             }

@@ -4,7 +4,7 @@ use Rattle.open_symbols.specs.Settled.{FirstOpen}
 use Rattle.open_symbols.proofs.open_within.Given as goal
 
 abbrev pub invariant-loop-j : goal.invariant-loop-j
-invariant-loop-j l = FirstOpen l.each l.threshold l.difference l.zeros l.from l.end l.j
+invariant-loop-j g l = FirstOpen l.each l.threshold (g.S.Symbol.numbers l.difference) l.zeros l.from l.end l.j
 
 abbrev pub decreases-loop-j : goal.decreases-loop-j
-decreases-loop-j l = l.end - l.j
+decreases-loop-j g l = l.end - l.j

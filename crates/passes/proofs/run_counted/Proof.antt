@@ -1,6 +1,6 @@
 -- `run_counted`: in a pass, and in each branch of it, the state is that after the visits to the symbols before its place; between passes those left give what the whole run gives, with at most 4,096 changes a pass.
 use mathlib.Core.Path.{◌≡◌, refl, sym, ◌∙◌, ap, subst}
-use mathlib.Core.List.{List, []}
+use mathlib.Core.List.{List, [], not-mem-nil}
 use Prim.Native.Nat.{ℕ, ◌≤◌, ◌<◌, ◌+◌, ◌-◌, ◌*◌}
 use native.Mathlib.Omega.{arith}
 use lib.ListN.{length, get_or, drop, drop_of_length-le}
@@ -150,9 +150,12 @@ open-from-requires c κs =
     let r = (kept_in i).ready in
     let w = i.loop-at.invariant.0 in
     let inside = in_end r.usable.table w in (
-      omega (arith, w.high, same_end w),
-      omega (arith, inside, r.sized.len_difference),
-      omega (arith, inside, ap length i.loop-at.invariant.2 ∙ length_zero_counts _ _),
+      (λ a m. absurd (not-mem-nil m)),
+      (
+        omega (arith, w.high, same_end w),
+        omega (arith, inside, r.sized.len_difference),
+        omega (arith, inside, ap length i.loop-at.invariant.2 ∙ length_zero_counts _ _),
+      ),
     )
 
 -- it is in the branch, and the visits to those before it change nothing
