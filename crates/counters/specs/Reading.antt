@@ -12,7 +12,7 @@ abbrev pub held : List ℕ → ℕ → ℕ
 held counters v = get_or counters v 0
 
 -- what a vote tells, as the struct that the code hands back
-abbrev pub as_vote : Votes → Vote
+abbrev pub as_vote : Votes → Vote ℕ
 as_vote v = record { leader = v.leader; lead = v.lead; next = v.next; zeros = v.zeros }
 
 -- the vote read from the counters of all estimates is the vote

@@ -30,7 +30,7 @@ fn clear_each(es: &[u8], counters: &mut [u8])
 
 // The leader of the estimates by the counters, and its count.
 #[tactic(auto, using(theory::specs::Turns::first_turn, vote::specs::Leading::lead_first), unfolding(model::specs::Vote::first_by))]
-fn leader_by(es: &[u8], counters: &[u8]) -> Commonest
+fn leader_by(es: &[u8], counters: &[u8]) -> Commonest<u8>
     requires { (0 < length es.now) × (length counters.now ≡ 256) }
     ensures { result ≡ lead_by (held counters.now) (first_by (held counters.now) (get_or es.now 0 0) es.now) }
 {
@@ -60,7 +60,7 @@ fn next_by(es: &[u8], counters: &[u8], h: u8) -> u8
 
 // What the vote tells, as read from the counters, whatever these hold.
 #[tactic(auto, unfolding(model::specs::Vote::votes_read, model::specs::Vote::votes_by))]
-fn read_vote(es: &[u8], counters: &[u8]) -> Vote
+fn read_vote(es: &[u8], counters: &[u8]) -> Vote<u8>
     requires { (0 < length es.now) × (length counters.now ≡ 256) }
     ensures { result ≡ as_vote (votes_read counters.now es.now) }
 {
@@ -75,7 +75,7 @@ fn read_vote(es: &[u8], counters: &[u8]) -> Vote
 }
 
 // The vote over 2 to 33 estimates by 256 counters, which are zero before and after.
-pub fn vote_counted(es: &[u8], counters: &mut [u8]) -> Vote
+pub fn vote_counted(es: &[u8], counters: &mut [u8]) -> Vote<u8>
     requires { (2 ≤ length es.now) × (length es.now ≤ 33) × (counters.old ≡ zero_counters 256) }
     ensures told { result ≡ vote_of es.now }
     ensures kept { counters.new ≡ counters.old }

@@ -12,7 +12,7 @@ ghost use Rattle.ones.specs.Pages.{InBits};
 ghost use Rattle.grounds.specs.Told.{told_of};
 
 use params::Params;
-use vote::Vote;
+use vote::{Estimate, Vote};
 
 // What explain tells of a data symbol.
 #[derive(Clone, Copy)]
@@ -25,52 +25,61 @@ pub struct Told {
 }
 
 // The bits of the estimates that are h, from the lowest: the last estimate first, each doubling what stands.
-fn bits_of(es: &[u8], h: u8) -> u64
+fn bits_of<E: Estimate>(es: &[E], h: E) -> u64
     requires { length es.now ≤ 33 }
-    ensures { result ≡ equal_bits es.now h }
+    ensures { result ≡ equal_bits (E.numbers es.now) (E.number h) }
 {
     let mut bits: u64 = 0;
-    for e in es.iter().rev() {
-        bits = bits + bits + (symbols::equal(*e, h) as u64);
+    for i in (0..es.len()).rev() {
+        bits = bits + bits + (es[i].equal(h).widened() as u64);
     }
     bits
 }
 
 // The ground at a threshold, by the vote.
-fn ground_of(threshold: u32, v: Vote) -> u32
-    requires { v.next ≤ v.lead }
-    ensures { result ≡ choose (ltb threshold (v.lead - v.next)) (choose (eqb v.leader 0) 2 3) 1 }
+fn ground_of<E: Estimate>(threshold: u32, v: Vote<E>) -> u32
+    requires { E.number v.next ≤ E.number v.lead }
+    ensures { result ≡ choose (ltb threshold (E.number v.lead - E.number v.next)) (choose (eqb (E.number v.leader) 0) 2 3) 1 }
 {
-    if (v.lead - v.next) as u32 <= threshold {
+    if v.lead.widened() - v.next.widened() <= threshold {
         return 1;
     }
-    if v.leader == 0 {
+    if v.leader.widened() == 0 {
         return 2;
     }
     3
 }
 
 // What explain tells, by the vote and the bits of the estimates that are its leader.
-fn told_by(threshold: u32, v: Vote, bits: u64) -> Told
-    requires { v.next ≤ v.lead }
+fn told_by<E: Estimate>(threshold: u32, v: Vote<E>, bits: u64) -> Told
+    requires { E.number v.next ≤ E.number v.lead }
     ensures { result ≡ record {
-      ground_number = choose (ltb threshold (v.lead - v.next)) (choose (eqb v.leader 0) 2 3) 1;
-      leader = v.leader;
-      lead = v.lead;
-      next = v.next;
+      ground_number = choose (ltb threshold (E.number v.lead - E.number v.next)) (choose (eqb (E.number v.leader) 0) 2 3) 1;
+      leader = E.number v.leader;
+      lead = E.number v.lead;
+      next = E.number v.next;
       bits = bits;
     } }
 {
     Told {
         ground_number: ground_of(threshold, v),
-        leader: v.leader as u32,
-        lead: v.lead as u32,
-        next: v.next as u32,
+        leader: v.leader.widened(),
+        lead: v.lead.widened(),
+        next: v.next.widened(),
         bits,
     }
 }
 
-// What explain tells of estimates. On bit pages the vote is by the ones of the word that holds them, and those that equal its leader are
+// What explain tells of estimates, pair by pair.
+pub fn tell_pairs<E: Estimate>(es: &[E], threshold: u32) -> Told
+    requires { (2 ≤ length es.now) × (length es.now ≤ 33) }
+    ensures { result ≡ told_of threshold (E.numbers es.now) }
+{
+    let v = vote::vote_over(es);
+    told_by(threshold, v, bits_of(es, v.leader))
+}
+
+// The same. On bit pages the vote is by the ones of the word that holds them, and those that equal its leader are
 // the word or the rest of its bits.
 fn tell(bits: bool, es: &[u8], threshold: u32) -> Told
     requires { (2 ≤ length es.now) × (length es.now ≤ 33) × (bits ≡ true → Below 2 es.now) }
@@ -82,8 +91,7 @@ fn tell(bits: bool, es: &[u8], threshold: u32) -> Told
         let v = ones::vote_in(n, word);
         return told_by(threshold, v, ones::equal_in(n, word, v.leader));
     }
-    let v = vote::vote_over(es);
-    told_by(threshold, v, bits_of(es, v.leader))
+    tell_pairs(es, threshold)
 }
 
 // What explain tells of a data symbol, from S and D.

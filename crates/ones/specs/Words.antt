@@ -24,12 +24,12 @@ use Rattle.checks.specs.Checks.{AtChecks, estimates_by}
 use Rattle.checks.specs.Estimates.{estimates_length}
 
 -- what the vote tells, by the ones of a word of n bits
-abbrev pub vote_in : ℕ → ℕ → Vote
+abbrev pub vote_in : ℕ → ℕ → Vote ℕ
 vote_in n word = let v = bit_votes n word in record { leader = v.leader; lead = v.lead; next = v.next; zeros = v.zeros }
 
 -- by the larger of the two counts
 module _ (n w : ℕ) where
-  pub vote_ones : zeros_in n w < ones w → ◌≡◌ {A = Vote} (record { leader = 1; lead = ones w; next = zeros_in n w; zeros = zeros_in n w }) (vote_in n w)
+  pub vote_ones : zeros_in n w < ones w → ◌≡◌ {A = Vote ℕ} (record { leader = 1; lead = ones w; next = zeros_in n w; zeros = zeros_in n w }) (vote_in n w)
   unfolding bit_votes
   vote_ones h = λ i. record {
     leader = (let e : 1 ≡ bit (ltb (zeros_in n w) (ones w)) = rw (lt-ltb (zeros_in n w) (ones w) h) refl in e) i;
@@ -38,7 +38,7 @@ module _ (n w : ℕ) where
     zeros = zeros_in n w;
   }
 
-  pub vote_zeros : ones w ≤ zeros_in n w → ◌≡◌ {A = Vote} (record { leader = 0; lead = zeros_in n w; next = ones w; zeros = zeros_in n w }) (vote_in n w)
+  pub vote_zeros : ones w ≤ zeros_in n w → ◌≡◌ {A = Vote ℕ} (record { leader = 0; lead = zeros_in n w; next = ones w; zeros = zeros_in n w }) (vote_in n w)
   unfolding bit_votes
   vote_zeros h = λ i. record {
     leader = (let e : 0 ≡ bit (ltb (zeros_in n w) (ones w)) = rw (le-ltb (zeros_in n w) (ones w) h) refl in e) i;

@@ -60,7 +60,7 @@ pub fn ones_at(code: Params, positions: &[u16], j: usize, own: u8, s: &[u8]) -> 
 
 // What the vote tells, by the ones of a word of n bits: 1 leads where they are more than the zeros, else 0.
 #[tactic(auto, using(crate::specs::Words::vote_ones, crate::specs::Words::vote_zeros))]
-pub fn vote_in(n: usize, word: u64) -> Vote
+pub fn vote_in(n: usize, word: u64) -> Vote<u8>
     requires { (n ≤ 33) × (ones word ≤ n) }
     ensures { result ≡ vote_in n word }
 {

@@ -61,7 +61,7 @@ pub fn change_at(
 }
 
 // The vote over estimates: by the counters, where 256 are lent, and else pair by pair.
-fn vote_by(es: &[u8], counters: &mut [u8]) -> Vote
+fn vote_by(es: &[u8], counters: &mut [u8]) -> Vote<u8>
     requires { (2 ≤ length es.now) × (length es.now ≤ 33) × Clear counters.old }
     ensures told { result ≡ vote_of es.now }
     ensures kept { counters.new ≡ counters.old }

@@ -11,16 +11,23 @@ use Rattle.vote.specs.declared.Commonest.{Commonest}
 use Rattle.vote.specs.declared.Vote.{Vote}
 
 -- a value with its count, by the count m of each value
-abbrev pub lead_by : (ℕ → ℕ) → ℕ → Commonest
+abbrev pub lead_by : (ℕ → ℕ) → ℕ → Commonest ℕ
 lead_by m v = record { value = v; count = m v }
 
 -- a value, and how many of the estimates have it
-abbrev pub lead_of : List ℕ → ℕ → Commonest
+abbrev pub lead_of : List ℕ → ℕ → Commonest ℕ
 lead_of es = lead_by (λ v. count v es)
 
 -- what the vote over estimates tells
-abbrev pub vote_of : List ℕ → Vote
+abbrev pub vote_of : List ℕ → Vote ℕ
 vote_of es = record { leader = leader es; lead = lead_count es; next = next_count es; zeros = zero_count es }
+
+-- both of any estimates, as numbers
+abbrev pub lead_numbers : {E : Type 0} → (E → ℕ) → Commonest E → Commonest ℕ
+lead_numbers number c = record { value = number c.value; count = number c.count }
+
+abbrev pub vote_numbers : {E : Type 0} → (E → ℕ) → Vote E → Vote ℕ
+vote_numbers number v = record { leader = number v.leader; lead = number v.lead; next = number v.next; zeros = number v.zeros }
 
 module _ (m : ℕ → ℕ) where
   lead_choose : (t : Bool) (a b : ℕ) → choose t (lead_by m a) (lead_by m b) ≡ lead_by m (choose t a b)
@@ -28,7 +35,7 @@ module _ (m : ℕ → ℕ) where
   lead_choose false a b = refl
 
   -- the first of the leader so far and a candidate, each with its count
-  pub lead_first : (best : Commonest) (b a n : ℕ) → best ≡ lead_by m b → n ≡ m a
+  pub lead_first : (best : Commonest ℕ) (b a n : ℕ) → best ≡ lead_by m b → n ≡ m a
       → choose (ltb best.count n || (eqb best.count n && ltb a best.value)) (record { value = a; count = n }) best ≡ lead_by m (choose (before_by m a b) a b)
   lead_first best b a n e f = rw (e, f) (lead_choose (before_by m a b) a b)
 

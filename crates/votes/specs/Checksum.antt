@@ -6,7 +6,7 @@ use Rattle.vote.specs.Leading.{vote_of}
 use Rattle.vote.specs.declared.Vote.{Vote}
 
 -- what a vote tells, in one number: a byte each, the leader lowest
-abbrev pub packed : Vote → ℕ
+abbrev pub packed : Vote ℕ → ℕ
 packed v = v.leader + 256 * v.lead + 65536 * v.next + 16777216 * v.zeros
 
 -- list i of those of `each` estimates, one after the other

@@ -14,7 +14,7 @@ module _ (each : ℕ) (lists : List ℕ) (i at : ℕ) (a : at ≡ i * each) wher
   part_inside h = omega (arith, a, mul-le-mul_right each h, div-mul-le_self (length lists) each)
 
   -- and is list i, whose vote v is added
-  pub sum_more : (v : Vote) → v ≡ vote_of (take (at + each - at) (drop at lists)) → (sum_of_votes each lists i + packed v) % 4294967296 ≡ sum_of_votes each lists (i + 1)
+  pub sum_more : (v : Vote ℕ) → v ≡ vote_of (take (at + each - at) (drop at lists)) → (sum_of_votes each lists i + packed v) % 4294967296 ≡ sum_of_votes each lists (i + 1)
   unfolding sum_of_votes
   sum_more v e = rw (add-one i, e, add-sub_cancel_left at each, a) refl
 
@@ -27,7 +27,7 @@ list_next each lists i left part rest l (f, n) = (
 )
 
 -- and its vote v is added
-pub sum_next : (each : ℕ) (lists : List ℕ) (i : ℕ) (v : Vote) → v ≡ vote_of (list_at each lists i)
+pub sum_next : (each : ℕ) (lists : List ℕ) (i : ℕ) (v : Vote ℕ) → v ≡ vote_of (list_at each lists i)
     → (sum_of_votes each lists i + packed v) % 4294967296 ≡ sum_of_votes each lists (i + 1)
 unfolding sum_of_votes
 sum_next each lists i v e = rw (add-one i, e) refl

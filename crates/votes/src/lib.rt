@@ -10,7 +10,7 @@ ghost use Rattle.votes.specs.Checksum.{packed, sum_of_votes, checksum};
 use vote::Vote;
 
 // What a vote tells, in one number.
-fn packed_of(v: Vote) -> u32
+fn packed_of(v: Vote<u8>) -> u32
     ensures { result ≡ packed v }
 {
     (v.leader as u32)
@@ -20,7 +20,7 @@ fn packed_of(v: Vote) -> u32
 }
 
 // The sum with one vote more.
-fn added(sum: u32, v: Vote) -> u32
+fn added(sum: u32, v: Vote<u8>) -> u32
     ensures { result ≡ (sum + packed v) % 4294967296 }
 {
     std::num::wrapping_add_u32(sum, packed_of(v))

@@ -1,3 +1,2 @@
--- What the wide vote tells, and the turns of its loops.
-pub mod Leading
+-- The laws of the quick test by low bytes.
 pub mod Lows

@@ -4,6 +4,7 @@ use mathlib.Core.Path.{ap, ◌∙◌}
 use native.Mathlib.Omega.{arith}
 use Rattle.theory.specs.Voting.{next_le_lead}
 use Rattle.vote.specs.declared.Vote.{Vote}
+use Prim.Native.Nat.{ℕ}
 use Rattle.visits.specs.Decisions.{subtract_behind, subtract_leader}
 use Rattle.visits.proofs.decided.Statement.{statement}
 use Rattle.visits.proofs.decided.Tie as tie
@@ -26,7 +27,7 @@ returns c =
     let t = told c.before in
     let a = t.before.before.before.before.args in
     let e = t.vote_by-v.ensures in
-    (subtract_behind a.threshold a.es.now (omega (arith, ap (λ (v : Vote). v.lead) e.0, ap (λ (v : Vote). v.next) e.0, c.if-v-threshold.true)), e.1)
+    (subtract_behind a.threshold a.es.now (omega (arith, ap (λ (v : Vote ℕ). v.lead) e.0, ap (λ (v : Vote ℕ). v.next) e.0, c.if-v-threshold.true)), e.1)
 
 same-length-2 : tie.Need-shape_of-counters
 same-length-2 c = search rules
@@ -36,8 +37,8 @@ returns-2 c =
     let t = told c.before in
     let a = t.before.before.before.before.args in
     let e = t.vote_by-v.ensures in (
-      ap (λ (v : Vote). v.leader) e.0
-          ∙ subtract_leader a.threshold a.es.now (omega (arith, ap (λ (v : Vote). v.lead) e.0, ap (λ (v : Vote). v.next) e.0, c.if-v-threshold.false)),
+      ap (λ (v : Vote ℕ). v.leader) e.0
+          ∙ subtract_leader a.threshold a.es.now (omega (arith, ap (λ (v : Vote ℕ). v.lead) e.0, ap (λ (v : Vote ℕ). v.next) e.0, c.if-v-threshold.false)),
       e.1,
     )
 

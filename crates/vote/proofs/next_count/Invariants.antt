@@ -4,4 +4,6 @@ use Rattle.model.specs.Vote.{other_count}
 use Rattle.vote.proofs.next_count.Given as goal
 
 abbrev pub invariant-loop-a : goal.invariant-loop-a
-invariant-loop-a l = l.m ≡ other_count l.es l.h (take l.a-index l.es)
+invariant-loop-a g l =
+    let e = g.E.Symbol in
+    e.number l.m ≡ other_count (e.numbers l.es) (e.number l.h) (take l.a-index (e.numbers l.es))

@@ -2,19 +2,19 @@ use Rattle.std.proofs.Common.{◌≡◌, List, ℕ, ap, ◌∙◌, arith}
 use Rattle.model.specs.Vote.{leader, lead_count, next_count, other_count}
 use Rattle.theory.specs.Voting.{next_le_lead}
 use Rattle.visits.specs.Decisions.{subtract_by_lead, subtract_behind, subtract_leader}
-use Rattle.wide_vote.specs.declared.Commonest.{Commonest}
-use Rattle.wide_vote.specs.Leading.{lead_of}
+use Rattle.vote.specs.declared.Commonest.{Commonest}
+use Rattle.vote.specs.Leading.{lead_of}
 use Rattle.wide_vote.proofs.decided.Goals as goal
 
 -- the count of the leader
-lead : (es : List ℕ) (best : Commonest) → best ≡ lead_of es (leader es) → best.count ≡ lead_count es
+lead : (es : List ℕ) (best : Commonest ℕ) → best ≡ lead_of es (leader es) → best.count ≡ lead_count es
 unfolding lead_count
-lead es best e = ap (λ (l : Commonest). l.count) e
+lead es best e = ap (λ (l : Commonest ℕ). l.count) e
 
 -- that of the others
-next : (es : List ℕ) (best : Commonest) (n : ℕ) → best ≡ lead_of es (leader es) → n ≡ other_count es best.value es → n ≡ next_count es
+next : (es : List ℕ) (best : Commonest ℕ) (n : ℕ) → best ≡ lead_of es (leader es) → n ≡ other_count es best.value es → n ≡ next_count es
 unfolding next_count
-next es best n e f = f ∙ ap (λ (l : Commonest). other_count es l.value es) e
+next es best n e f = f ∙ ap (λ (l : Commonest ℕ). other_count es l.value es) e
 
 pub returns-then-not-may_lead : goal.returns-then-not-may_lead
 returns-then-not-may_lead c =
@@ -41,5 +41,5 @@ pub returns : goal.returns
 returns c =
     let es = c.args.es.now in
     let e = c.leader_of-best.ensures in
-    ap (λ (l : Commonest). l.value) e
+    ap (λ (l : Commonest ℕ). l.value) e
     ∙ subtract_leader c.args.threshold es (omega (arith, next es _ _ e c.next_count-next.ensures, lead es _ e, c.if-best-next.false))
