@@ -1,0 +1,26 @@
+-- `most_other_pairs`: the part of the buffer that is counted over holds the estimates.
+use Rattle.std.proofs.Common.{List, ℕ, ap, refl, sym, ◌∙◌, arith, length, length-append}
+use lib.Seq.{length-take-le}
+use Rattle.vote.specs.Others.{others}
+use Rattle.checks.specs.Estimates.{estimates_length, gathered}
+use Rattle.margins.proofs.most_other_pairs.Goals as goal
+
+pub slice_bounds-gather-end : goal.slice_bounds-gather-end
+slice_bounds-gather-end c = sym (length-take-le _ _ (omega (arith, c.requires.0.J-high)))
+
+pub gather-requires : goal.gather-requires
+gather-requires c = (c.requires.0, c.requires.1, length-take-le _ _ (omega (arith, c.requires.0.J-high)))
+
+pub slice_bounds-found-end-2 : goal.slice_bounds-found-end-2
+slice_bounds-found-end-2 c =
+    let a = c.args in
+    simp length-append (omega (arith, ap length c.gather.ensures, estimates_length a.code.k a.positions.now a.j a.own a.s.now))
+
+pub slice_bounds-most_other-end : goal.slice_bounds-most_other-end
+slice_bounds-most_other-end c = sym (gathered c.requires.0 c.args.j c.args.own _ _ _ c.gather.ensures refl).len
+
+pub most_other-requires : goal.most_other-requires
+most_other-requires c = (gathered c.requires.0 c.args.j c.args.own _ _ _ c.gather.ensures refl).high
+
+pub returns : goal.returns
+returns c = c.most_other.ensures ∙ ap (λ (l : List ℕ). others l) (gathered c.requires.0 c.args.j c.args.own _ _ _ c.gather.ensures refl).same
