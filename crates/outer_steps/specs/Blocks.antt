@@ -1,5 +1,5 @@
 -- The step of a block, and blocks one after the other.
-use Rattle.std.specs.Prelude.{◌≡◌, refl, Bool, true, false, ◌≢◌, List, ℕ, zero, suc, ◌+◌, ◌-◌, ◌*◌, ◌/◌, ◌%◌, ◌≤◌, ◌<◌, length, get_or, take, drop}
+use Rattle.std.specs.Prelude.{◌≡◌, refl, Option, Some, None, Bool, true, false, ◌≢◌, List, ℕ, zero, suc, ◌+◌, ◌-◌, ◌*◌, ◌/◌, ◌%◌, ◌≤◌, ◌<◌, length, get_or, take, drop}
 use Rattle.std.proofs.Math.Path.{ap, sym}
 use Rattle.std.proofs.Common.{◌∙◌, zero-mul, add-mul, mod-lt, mul-le-mul_right, mul-le-mul_left, add-one}
 use Rattle.std.proofs.Math.Decide.{dec_lt}
@@ -19,12 +19,12 @@ use Rattle.visits.specs.Progress.{Ready}
 use Rattle.outer_steps.specs.declared.Step.{Step}
 
 -- a step, or none
-abbrev pub step_if : Bool → ℕ → ℕ → Step
-step_if true j e = record { symbol = j; sum = e }
-step_if false j e = record { symbol = 0; sum = 0 }
+abbrev pub step_if : Bool → ℕ → ℕ → Option Step
+step_if true j e = Some (record { symbol = j; sum = e })
+step_if false j e = None
 
 -- that of block i
-unfoldable pub step_of : Code → ℕ → ℕ → State → Step
+unfoldable pub step_of : Code → ℕ → ℕ → State → Option Step
 step_of c L i st = let e = block_sum c.q L st.result i in step_if (is_step c L i st) (weakest c L i e st) e
 
 -- a state, and the number of steps that led to it
@@ -106,7 +106,7 @@ module _ (c : Code) (L : ℕ) (fits : BlockFits c L) where
 -- ---- the step of block i, from its sum e
 
 module _ (c : Code) (L i : ℕ) (st : State) (e : ℕ) (sum : e ≡ block_sum c.q L st.result i) where
-  pub step_zero : e ≡ 0 → record { symbol = 0; sum = 0 } ≡ step_of c L i st
+  pub step_zero : e ≡ 0 → None ≡ step_of c L i st
   unfolding step_of
   step_zero z = ap (λ (b : Bool). step_if b (weakest c L i (block_sum c.q L st.result i) st) (block_sum c.q L st.result i)) (sym (zero_no_step c L i st (sym sum ∙ z)))
 
@@ -128,11 +128,11 @@ module _ (c : Code) (L i : ℕ) (st : State) (e : ℕ) (sum : e ≡ block_sum c.
         ∙ ap (λ (x : ℕ). lt_z (reliability_of c here st j) (reliability_of c here st x)) (sym last)
         ∙ ap (λ (x : ℕ). lt_z (reliability_of c x st j) (reliability_of c x st m)) (sym sum))
 
-    pub step_made : lt_z (reliability_of c e st j) (reliability_of c e st m) ≡ true → record { symbol = j; sum = e } ≡ step_of c L i st
+    pub step_made : lt_z (reliability_of c e st j) (reliability_of c e st m) ≡ true → Some (record { symbol = j; sum = e }) ≡ step_of c L i st
     unfolding step_of
-    step_made y = (λ o. record { symbol = weakest_is o; sum = sum o }) ∙ ap (λ (b : Bool). step_if b (weakest c L i here st) here) (sym (test ∙ y))
+    step_made y = (λ o. Some (record { symbol = weakest_is o; sum = sum o })) ∙ ap (λ (b : Bool). step_if b (weakest c L i here st) here) (sym (test ∙ y))
 
-    pub step_left : lt_z (reliability_of c e st j) (reliability_of c e st m) ≡ false → record { symbol = 0; sum = 0 } ≡ step_of c L i st
+    pub step_left : lt_z (reliability_of c e st j) (reliability_of c e st m) ≡ false → None ≡ step_of c L i st
     unfolding step_of
     step_left y = ap (λ (b : Bool). step_if b (weakest c L i here st) here) (sym (test ∙ y))
 
@@ -143,7 +143,7 @@ no_step : (c : Code) (L i : ℕ) (st : State) → is_step c L i st ≡ false →
 unfolding stepped_by
 no_step c L i st n = λ o. record { state = sym (step_no c L i st n) o; steps = ap bit (sym n) o }
 
-module _ (c : Code) (L i : ℕ) (st : State) (x : Step) (is : x ≡ step_of c L i st) where
+module _ (c : Code) (L i : ℕ) (st : State) where
   abbrev sum_here : ℕ
   sum_here = block_sum c.q L st.result i
 
@@ -152,31 +152,35 @@ module _ (c : Code) (L i : ℕ) (st : State) (x : Step) (is : x ≡ step_of c L 
   by_case b e = ap (λ (y : Bool). step_if y (weakest c L i sum_here st) sum_here) e
 
   -- none is made
-  pub not_made : x.sum ≡ 0 → record { state = st; steps = 0 } ≡ stepped_by c L i st
-  not_made z = no_step c L i st (no (is_step c L i st) refl)
+  pub not_made : None ≡ step_of c L i st → record { state = st; steps = 0 } ≡ stepped_by c L i st
+  not_made is = no_step c L i st (no (is_step c L i st) refl)
     where
       no : (b : Bool) → is_step c L i st ≡ b → is_step c L i st ≡ false
-      no true e = zero_no_step c L i st (sym (ap (λ (y : Step). y.sum) (is ∙ by_case true e)) ∙ z)
+      no true e = let z = is ∙ by_case true e in cc
       no false e = e
 
+module _ (c : Code) (L i : ℕ) (st : State) (x : Step) (is : Some x ≡ step_of c L i st) where
   -- one is made
   pub record Made : Type 0 where
     pub yes : is_step c L i st ≡ true
-    pub symbol_is : x.symbol ≡ weakest c L i sum_here st
-    pub sum_is : x.sum ≡ sum_here
+    pub symbol_is : x.symbol ≡ weakest c L i (sum_here c L i st) st
+    pub sum_is : x.sum ≡ sum_here c L i st
 
-  pub made : x.sum ≢ 0 → Made
-  made n = go (is_step c L i st) refl
+  pub made : Made
+  made = go (is_step c L i st) refl
     where
       go : (b : Bool) → is_step c L i st ≡ b → Made
-      go true e = let z = is ∙ by_case true e in record { yes = e; symbol_is = ap (λ (y : Step). y.symbol) z; sum_is = ap (λ (y : Step). y.sum) z }
-      go false e = absurd (n (ap (λ (y : Step). y.sum) (is ∙ by_case false e)))
+      go true e =
+          let z = is ∙ by_case c L i st true e in
+          let w : x ≡ record { symbol = weakest c L i (sum_here c L i st) st; sum = sum_here c L i st } = cc in
+          record { yes = e; symbol_is = ap (λ (y : Step). y.symbol) w; sum_is = ap (λ (y : Step). y.sum) w }
+      go false e = let z = is ∙ by_case c L i st false e in absurd (let w : ⊥ = cc in w)
 
   pub stepped_made : Made → (st' : State) → st' ≡ change c.q (checks_of c x.symbol) x.symbol x.sum st → record { state = st'; steps = 1 } ≡ stepped_by c L i st
   unfolding stepped_by
   stepped_made m st' e = λ o. record {
     state = (e ∙ ap (λ (j : ℕ). change c.q (checks_of c j) j x.sum st) m.symbol_is
-        ∙ ap (λ (h : ℕ). change c.q (checks_of c (weakest c L i sum_here st)) (weakest c L i sum_here st) h st) m.sum_is ∙ sym (step_yes c L i st m.yes)) o;
+        ∙ ap (λ (h : ℕ). change c.q (checks_of c (weakest c L i (sum_here c L i st) st)) (weakest c L i (sum_here c L i st) st) h st) m.sum_is ∙ sym (step_yes c L i st m.yes)) o;
     steps = ap bit (sym m.yes) o;
   }
 

@@ -42,14 +42,14 @@ fn weakest_of(
     best
 }
 
-// What a block's step subtracts, and from which symbol; 0 where the block has no step.
+// What a block's step subtracts, and from which symbol.
 #[derive(Clone, Copy)]
 struct Step {
     symbol: usize,
     sum: u8,
 }
 
-// The step of the block that starts at a symbol, from the state as it stands.
+// The step of the block that starts at a symbol, from the state as it stands, if it has one.
 fn step_of(
     code: Params,
     positions: &[u16],
@@ -59,7 +59,7 @@ fn step_of(
     res: &[u8],
     s: &[u8],
     d: &[u8],
-) -> Step
+) -> Option<Step>
     requires { Ready (code_by code positions.now) (state_by res.now s.now d.now)
         × BlockAt (code_by code positions.now) block bound at }
     ensures { result ≡ step_of (code_by code positions.now) block (at / block) (state_by res.now s.now d.now) }
@@ -67,16 +67,16 @@ fn step_of(
     let end = at + block;
     let sum = blocks::sum_of(code.q, bound, &res[at..end]);
     if sum == 0 {
-        return Step { symbol: 0, sum: 0 };
+        return None;
     }
     let last = end - 1;
     let symbol = weakest_of(code, positions, at, last, sum, s, d);
     let least = reliabilities::reliability_at(code, positions, symbol, sum, s, d);
     let other = reliabilities::reliability_at(code, positions, last, sum, s, d);
     if least < other {
-        return Step { symbol, sum };
+        return Some(Step { symbol, sum });
     }
-    Step { symbol: 0, sum: 0 }
+    None
 }
 
 // A block in its turn: 1 where it has a step, which is then made, else 0.
@@ -95,10 +95,10 @@ fn outer_step(
     ensures { record { state = state_by res.new syndrome.new difference.new; steps = result }
         ≡ stepped_by (code_by code positions.now) block (at / block) (state_by res.old syndrome.old difference.old) }
 {
-    let step = step_of(code, positions, block, bound, at, res, syndrome, difference);
-    if step.sum == 0 {
-        return 0;
-    }
+    let step = match step_of(code, positions, block, bound, at, res, syndrome, difference) {
+        Some(step) => step,
+        None => return 0,
+    };
     let each = params::checks_each(code, positions.len());
     let place = checks::place_of(code, each, step.symbol);
     visits::change_at(code, positions, place, step.sum, res, syndrome, difference);
