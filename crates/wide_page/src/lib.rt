@@ -2,18 +2,20 @@
 // is not read: every symbol is below the one of its profile.
 #![tactic(auto)]
 
-ghost use Rattle.std.specs.Prelude.{◌≡◌, true};
+ghost use Rattle.std.specs.Prelude.{◌≡◌, true, OnOk};
 ghost use Rattle.model.specs.Code.{wide_code};
 ghost use Rattle.model.specs.Decoder.{state_by};
 ghost use Rattle.model.specs.Calls.{table_answer, encode_outcome, syndrome_outcome, open_outcome};
 ghost use Rattle.model.specs.Demand.{Encodes};
+ghost use Rattle.refusals.specs.Numbers.{answer};
 
 use params::Params;
+use refusals::Refusal;
 use wide_symbols::WideSymbol;
 
 // Checks a code table.
-pub fn check_table<S: WideSymbol>(k: u32, b: u32, positions: &[u16]) -> u32
-    ensures { result ≡ table_answer (wide_code S.profile k b positions.now) }
+pub fn check_table<S: WideSymbol>(k: u32, b: u32, positions: &[u16]) -> Result<(), Refusal>
+    ensures { answer result ≡ table_answer (wide_code S.profile k b positions.now) }
 {
     let code = Params {
         q: 256,
@@ -25,10 +27,16 @@ pub fn check_table<S: WideSymbol>(k: u32, b: u32, positions: &[u16]) -> u32
 }
 
 // Writes the page of the data.
-pub fn encode<S: WideSymbol>(k: u32, b: u32, positions: &[u16], data: &[S], page: &mut [S]) -> u32
-    ensures outcome { record { number = result; left = S.numbers page.new }
+pub fn encode<S: WideSymbol>(
+    k: u32,
+    b: u32,
+    positions: &[u16],
+    data: &[S],
+    page: &mut [S],
+) -> Result<(), Refusal>
+    ensures outcome { record { number = answer result; left = S.numbers page.new }
         ≡ encode_outcome (wide_code S.profile k b positions.now) (S.numbers «data».now) (S.numbers page.old) }
-    ensures word { result ≡ 0 → Encodes (wide_code S.profile k b positions.now) (S.numbers «data».now) (S.numbers page.new) }
+    ensures word { OnOk result (Encodes (wide_code S.profile k b positions.now) (S.numbers «data».now) (S.numbers page.new)) }
 {
     let code = Params {
         q: 256,
@@ -39,19 +47,22 @@ pub fn encode<S: WideSymbol>(k: u32, b: u32, positions: &[u16], data: &[S], page
     let n = params::data_count(code);
     let fits = lengths::two_fit(data.len(), n, page.len(), n + code.k);
     S::all_below(data);
-    let number = wide_answers::page_answer::<S>(code, positions, fits);
-    if number != 0 {
-        return number;
-    }
+    wide_answers::page_answer::<S>(code, positions, fits)?;
     let end = data.len();
     wide_symbols::copy_into(&mut page[..end], data);
     wide_codeword::write_checks(code, positions, data, &mut page[end..]);
-    0
+    Ok(())
 }
 
 // Writes the syndrome of a page.
-pub fn syndrome<S: WideSymbol>(k: u32, b: u32, positions: &[u16], page: &[S], s: &mut [S]) -> u32
-    ensures { record { number = result; left = S.numbers s.new }
+pub fn syndrome<S: WideSymbol>(
+    k: u32,
+    b: u32,
+    positions: &[u16],
+    page: &[S],
+    s: &mut [S],
+) -> Result<(), Refusal>
+    ensures { record { number = answer result; left = S.numbers s.new }
         ≡ syndrome_outcome (wide_code S.profile k b positions.now) (S.numbers page.now) (S.numbers s.old) }
 {
     let code = Params {
@@ -63,13 +74,10 @@ pub fn syndrome<S: WideSymbol>(k: u32, b: u32, positions: &[u16], page: &[S], s:
     let n = params::data_count(code);
     let fits = lengths::two_fit(page.len(), n + code.k, s.len(), code.k);
     S::all_below(page);
-    let number = wide_answers::page_answer::<S>(code, positions, fits);
-    if number != 0 {
-        return number;
-    }
+    wide_answers::page_answer::<S>(code, positions, fits)?;
     wide_symbols::copy_into(s, &page[n..]);
     wide_codeword::write_syndrome(code, positions, &page[..n], s);
-    0
+    Ok(())
 }
 
 // Opens a received page: fills the result, S and D.
@@ -81,8 +89,8 @@ pub fn open<S: WideSymbol>(
     res: &mut [S],
     syndrome: &mut [S],
     difference: &mut [S],
-) -> u32
-    ensures { record { number = result; left = state_by (S.numbers res.new) (S.numbers syndrome.new) (S.numbers difference.new) }
+) -> Result<(), Refusal>
+    ensures { record { number = answer result; left = state_by (S.numbers res.new) (S.numbers syndrome.new) (S.numbers difference.new) }
         ≡ open_outcome (wide_code S.profile k b positions.now) (S.numbers page.now)
         (state_by (S.numbers res.old) (S.numbers syndrome.old) (S.numbers difference.old)) }
 {
@@ -103,11 +111,8 @@ pub fn open<S: WideSymbol>(
         difference.len(),
     );
     S::all_below(page);
-    let number = wide_answers::page_answer::<S>(code, positions, fits);
-    if number != 0 {
-        return number;
-    }
+    wide_answers::page_answer::<S>(code, positions, fits)?;
     wide_correction::load_page(page, res, syndrome);
     wide_correction::open_state(code, positions, res, syndrome, difference);
-    0
+    Ok(())
 }
