@@ -5,9 +5,12 @@ ghost use Rattle.std.specs.Prelude.{◌≡◌, true};
 ghost use Rattle.model.specs.Code.{wide_code};
 ghost use Rattle.model.specs.Decoder.{state_by};
 ghost use Rattle.model.specs.Calls.{explain_outcome};
+ghost use Rattle.refusals.specs.Numbers.{answer};
+ghost use Rattle.explainer.specs.Explained.{explained_of};
 
-pub use explainer::Explained;
+pub use grounds::Told;
 use params::Params;
+use refusals::Refusal;
 use wide_symbols::WideSymbol;
 
 // Explains a data symbol at a threshold, from the result, S and D, which are only read.
@@ -20,11 +23,8 @@ pub fn explain<S: WideSymbol>(
     res: &[S],
     syndrome: &[S],
     difference: &[S],
-) -> Explained
-    ensures { record {
-      number = result.number;
-      left = record { ground_number = result.ground; leader = result.leader; lead = result.lead; next = result.next; bits = result.bits };
-    } ≡ explain_outcome (wide_code S.profile k b positions.now) true threshold symbol
+) -> Result<Told, Refusal>
+    ensures { record { number = answer result; left = explained_of result } ≡ explain_outcome (wide_code S.profile k b positions.now) true threshold symbol
         (state_by (S.numbers res.now) (S.numbers syndrome.now) (S.numbers difference.now)) }
 {
     let code = Params {
@@ -38,17 +38,7 @@ pub fn explain<S: WideSymbol>(
     S::all_below(difference);
     let n = params::data_count(code);
     let fits = lengths::state_fits(true, n, code.k, res.len(), syndrome.len(), difference.len());
-    let number = wide_answers::explain_answer::<S>(code, positions, fits, threshold, symbol);
-    if number != 0 {
-        return Explained {
-            number,
-            ground: 0,
-            leader: 0,
-            lead: 0,
-            next: 0,
-            bits: 0,
-        };
-    }
+    wide_answers::explain_answer::<S>(code, positions, fits, threshold, symbol)?;
     let told = wide_grounds::tell_symbol(
         code,
         positions,
@@ -57,12 +47,5 @@ pub fn explain<S: WideSymbol>(
         syndrome,
         difference,
     );
-    Explained {
-        number: 0,
-        ground: told.ground_number,
-        leader: told.leader,
-        lead: told.lead,
-        next: told.next,
-        bits: told.bits,
-    }
+    Ok(told)
 }
