@@ -5,10 +5,13 @@ ghost use Rattle.std.specs.Prelude.{◌≡◌, true, ◌*◌, ◌≤◌, length}
 ghost use Rattle.model.specs.Decoder.{state_by};
 ghost use Rattle.model.specs.Calls.{decode_outcome};
 ghost use Rattle.theory.specs.Counters.{Clear};
+ghost use Rattle.refusals.specs.Numbers.{answer};
+ghost use Rattle.tally.specs.Counts.{counts_in};
 ghost use Rattle.wide_symbols.specs.Codes.{wide_code_by};
 
 use params::Params;
-use tally::{Decoded, Tally};
+use refusals::Refusal;
+use tally::Tally;
 use wide_symbols::WideSymbol;
 
 // Decode with buffers for the zeros, all zero, and for the marks.
@@ -23,16 +26,16 @@ pub fn decode_into<S: WideSymbol>(
     syndrome: &mut [S],
     difference: &mut [S],
     margins: &mut [i32],
-) -> Decoded
+) -> Result<Tally, Refusal>
     requires { (code.k ≤ 4294967295) × (code.b ≤ 4294967295) × (code.b * code.k ≤ 4096 → code.b * code.k ≤ length zeros.old)
         × Clear zeros.old
         × (code.b * code.k ≤ 4096 → code.b * code.k ≤ length marks.old) }
     ensures { record {
-      number = result.number;
+      number = answer result;
       left = record {
         state = state_by (S.numbers res.new) (S.numbers syndrome.new) (S.numbers difference.new);
         margins = margins.new;
-        counts = record { passes = result.tally.passes; changes = result.tally.changes; start = result.tally.start; end = result.tally.end };
+        counts = counts_in result;
       };
     } ≡ decode_outcome (wide_code_by S.profile code positions.now) true (S.numbers page.now) thresholds.now
         (state_by (S.numbers res.old) (S.numbers syndrome.old) (S.numbers difference.old)) margins.old }
@@ -48,13 +51,7 @@ pub fn decode_into<S: WideSymbol>(
         difference.len(),
     );
     S::all_below(page);
-    let number = wide_answers::decode_answer::<S>(code, positions, fits, thresholds);
-    if number != 0 {
-        return Decoded {
-            number,
-            tally: Tally::opened(0),
-        };
-    }
+    wide_answers::decode_answer::<S>(code, positions, fits, thresholds)?;
     let k = code.k;
     wide_correction::load_page(page, res, syndrome);
     let tally = wide_correction::decode_state(
@@ -70,5 +67,5 @@ pub fn decode_into<S: WideSymbol>(
     wide_margins::fill(
         code, positions, tally.end, zeros, syndrome, difference, margins,
     );
-    Decoded { number: 0, tally }
+    Ok(tally)
 }

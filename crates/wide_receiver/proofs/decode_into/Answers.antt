@@ -1,4 +1,5 @@
-use Rattle.std.proofs.Common.{◌≡◌, Bool, ◌&&◌, List, ℕ, ◌+◌, ◌≤◌, eqb, ℤ, length, ◌++◌, drop, length-append, length-drop, length-take-le, take_at, mul-le-mul_right, ap, sym, ◌∙◌, arith}
+use Rattle.std.proofs.Common.{◌≡◌, refl, Bool, ◌&&◌, List, ℕ, ◌+◌, ◌≤◌, eqb, ℤ, length, ◌++◌, drop, length-append, length-drop, length-take-le, take_at, mul-le-mul_right, ap, sym, ◌∙◌, arith}
+use Rattle.std.proofs.lemmas.Result.{err_from_is_err_and}
 use Rattle.model.specs.Calls.{decode_fits, decode_answer, decode_outcome}
 use Rattle.model.specs.Code.{Code, data_count}
 use Rattle.model.specs.Decoder.{state_by, margins_of}
@@ -8,6 +9,7 @@ use Rattle.theory.specs.Outcomes.{left_as_lent, left_as_done}
 use Rattle.correction.specs.Decoded.{decoded}
 use Rattle.visits.specs.Progress.{Progress}
 use Rattle.wide_calls.specs.Received.{taken_loaded, left_by}
+use Rattle.refusals.specs.Numbers.{not_zero}
 use Rattle.zeros.specs.Counts.{length_zero_counts}
 use Rattle.wide_symbols.specs.Codes.{wide_code_by}
 use Rattle.wide_symbols.specs.Numbers.{IsNumbers, numbers_length}
@@ -50,16 +52,17 @@ module _ {S : Type 0} {number : S → ℕ} {numbers : List S → List ℕ} (w : 
         mark-room = omega (arith, mul-le-mul_right c.k size.b_low, k size.data-high);
       }
 
-pub returns-then-number-ne0 : goal.returns-then-number-ne0
+pub returns-in_err-decode_answer : goal.returns-in_err-decode_answer
 unfolding decode_outcome
-returns-then-number-ne0 g c =
+returns-in_err-decode_answer g c =
     let a = c.args in
     let w = g.S.WideSymbol in
     let n = g.met.S.Symbol.are_numbers in
     let code = wide_code_by w.profile a.code a.positions.now in
-    let e = c.decode_answer-number.ensures (g.S.Symbol.numbers a.page.now) c.all_below.ensures in
+    let e = c.in_err-decode_answer.ensures (w.numbers a.page.now) c.all_below.ensures in
     let r = answered n code a.page.now a.res.now a.syndrome.now a.difference.now a.thresholds.now a.margins.now e c.decode_fits-fits.ensures c.data_count-n.ensures in
-    rw c.opened.ensures (left_as_lent _ _ _ _ r c.if-number-ne0.true)
+    let p = err_from_is_err_and c.from_residual.result c.from_residual.ensures.1 in
+    rw (p.1, p.2) (left_as_lent _ _ _ _ r (not_zero _))
 
 pub load_page-requires : goal.load_page-requires
 load_page-requires g c =
@@ -67,9 +70,8 @@ load_page-requires g c =
     let w = g.S.WideSymbol in
     let n = g.met.S.Symbol.are_numbers in
     let code = wide_code_by w.profile a.code a.positions.now in
-    let e = c.decode_answer-number.ensures (g.S.Symbol.numbers a.page.now) c.all_below.ensures in
-    let t = tested n code a.page.now a.res.now a.syndrome.now a.difference.now a.thresholds.now a.margins.now a.zeros.now a.marks.now e c.decode_fits-fits.ensures c.data_count-n.ensures
-    c.if-number-ne0.false c.requires.2 c.requires.4 in
+    let e = c.in_ok-decode_answer.ensures (w.numbers a.page.now) c.all_below.ensures in
+    let t = tested n code a.page.now a.res.now a.syndrome.now a.difference.now a.thresholds.now a.margins.now a.zeros.now a.marks.now e c.decode_fits-fits.ensures c.data_count-n.ensures refl c.requires.2 c.requires.4 in
     let o = t.taken.opens in
     omega (arith, o.whole.len, o.len_result, o.len_syndrome, numbers_length n a.page.now, numbers_length n a.res.now, numbers_length n a.syndrome.now)
 
@@ -79,9 +81,8 @@ slice_bounds-decode_state-end g c =
     let w = g.S.WideSymbol in
     let n = g.met.S.Symbol.are_numbers in
     let code = wide_code_by w.profile a.code a.positions.now in
-    let e = c.decode_answer-number.ensures (g.S.Symbol.numbers a.page.now) c.all_below.ensures in
-    let t = tested n code a.page.now a.res.now a.syndrome.now a.difference.now a.thresholds.now a.margins.now a.zeros.now a.marks.now e c.decode_fits-fits.ensures c.data_count-n.ensures
-    c.if-number-ne0.false c.requires.2 c.requires.4 in
+    let e = c.in_ok-decode_answer.ensures (w.numbers a.page.now) c.all_below.ensures in
+    let t = tested n code a.page.now a.res.now a.syndrome.now a.difference.now a.thresholds.now a.margins.now a.zeros.now a.marks.now e c.decode_fits-fits.ensures c.data_count-n.ensures refl c.requires.2 c.requires.4 in
     t.room
 
 pub slice_bounds-decode_state-end-2 : goal.slice_bounds-decode_state-end-2
@@ -90,9 +91,8 @@ slice_bounds-decode_state-end-2 g c =
     let w = g.S.WideSymbol in
     let n = g.met.S.Symbol.are_numbers in
     let code = wide_code_by w.profile a.code a.positions.now in
-    let e = c.decode_answer-number.ensures (g.S.Symbol.numbers a.page.now) c.all_below.ensures in
-    let t = tested n code a.page.now a.res.now a.syndrome.now a.difference.now a.thresholds.now a.margins.now a.zeros.now a.marks.now e c.decode_fits-fits.ensures c.data_count-n.ensures
-    c.if-number-ne0.false c.requires.2 c.requires.4 in
+    let e = c.in_ok-decode_answer.ensures (w.numbers a.page.now) c.all_below.ensures in
+    let t = tested n code a.page.now a.res.now a.syndrome.now a.difference.now a.thresholds.now a.margins.now a.zeros.now a.marks.now e c.decode_fits-fits.ensures c.data_count-n.ensures refl c.requires.2 c.requires.4 in
     sym (length-take-le _ _ t.room)
 
 pub slice_bounds-decode_state-end-3 : goal.slice_bounds-decode_state-end-3
@@ -101,9 +101,8 @@ slice_bounds-decode_state-end-3 g c =
     let w = g.S.WideSymbol in
     let n = g.met.S.Symbol.are_numbers in
     let code = wide_code_by w.profile a.code a.positions.now in
-    let e = c.decode_answer-number.ensures (g.S.Symbol.numbers a.page.now) c.all_below.ensures in
-    let t = tested n code a.page.now a.res.now a.syndrome.now a.difference.now a.thresholds.now a.margins.now a.zeros.now a.marks.now e c.decode_fits-fits.ensures c.data_count-n.ensures
-    c.if-number-ne0.false c.requires.2 c.requires.4 in
+    let e = c.in_ok-decode_answer.ensures (w.numbers a.page.now) c.all_below.ensures in
+    let t = tested n code a.page.now a.res.now a.syndrome.now a.difference.now a.thresholds.now a.margins.now a.zeros.now a.marks.now e c.decode_fits-fits.ensures c.data_count-n.ensures refl c.requires.2 c.requires.4 in
     t.mark-room
 
 pub slice_bounds-decode_state-end-4 : goal.slice_bounds-decode_state-end-4
@@ -112,9 +111,8 @@ slice_bounds-decode_state-end-4 g c =
     let w = g.S.WideSymbol in
     let n = g.met.S.Symbol.are_numbers in
     let code = wide_code_by w.profile a.code a.positions.now in
-    let e = c.decode_answer-number.ensures (g.S.Symbol.numbers a.page.now) c.all_below.ensures in
-    let t = tested n code a.page.now a.res.now a.syndrome.now a.difference.now a.thresholds.now a.margins.now a.zeros.now a.marks.now e c.decode_fits-fits.ensures c.data_count-n.ensures
-    c.if-number-ne0.false c.requires.2 c.requires.4 in
+    let e = c.in_ok-decode_answer.ensures (w.numbers a.page.now) c.all_below.ensures in
+    let t = tested n code a.page.now a.res.now a.syndrome.now a.difference.now a.thresholds.now a.margins.now a.zeros.now a.marks.now e c.decode_fits-fits.ensures c.data_count-n.ensures refl c.requires.2 c.requires.4 in
     sym (length-take-le _ _ t.mark-room)
 
 pub decode_state-tally-requires : goal.decode_state-tally-requires
@@ -123,9 +121,8 @@ decode_state-tally-requires g c =
     let w = g.S.WideSymbol in
     let n = g.met.S.Symbol.are_numbers in
     let code = wide_code_by w.profile a.code a.positions.now in
-    let e = c.decode_answer-number.ensures (g.S.Symbol.numbers a.page.now) c.all_below.ensures in
-    let t = tested n code a.page.now a.res.now a.syndrome.now a.difference.now a.thresholds.now a.margins.now a.zeros.now a.marks.now e c.decode_fits-fits.ensures c.data_count-n.ensures
-    c.if-number-ne0.false c.requires.2 c.requires.4 in
+    let e = c.in_ok-decode_answer.ensures (w.numbers a.page.now) c.all_below.ensures in
+    let t = tested n code a.page.now a.res.now a.syndrome.now a.difference.now a.thresholds.now a.margins.now a.zeros.now a.marks.now e c.decode_fits-fits.ensures c.data_count-n.ensures refl c.requires.2 c.requires.4 in
     let l = c.load_page in (
       taken_loaded code (g.S.Symbol.numbers a.page.now) (g.S.Symbol.numbers a.res.now) (g.S.Symbol.numbers a.syndrome.now) (g.S.Symbol.numbers a.difference.now) _ _ l.ensures
           (omega (arith, numbers_length n l.new.res, numbers_length n a.res.now, l.auto.res)) (omega (arith, numbers_length n l.new.s, numbers_length n a.syndrome.now, l.auto.s))
@@ -141,9 +138,8 @@ fill-requires g c =
     let w = g.S.WideSymbol in
     let n = g.met.S.Symbol.are_numbers in
     let code = wide_code_by w.profile a.code a.positions.now in
-    let e = c.decode_answer-number.ensures (g.S.Symbol.numbers a.page.now) c.all_below.ensures in
-    let t = tested n code a.page.now a.res.now a.syndrome.now a.difference.now a.thresholds.now a.margins.now a.zeros.now a.marks.now e c.decode_fits-fits.ensures c.data_count-n.ensures
-    c.if-number-ne0.false c.requires.2 c.requires.4 in
+    let e = c.in_ok-decode_answer.ensures (w.numbers a.page.now) c.all_below.ensures in
+    let t = tested n code a.page.now a.res.now a.syndrome.now a.difference.now a.thresholds.now a.margins.now a.zeros.now a.marks.now e c.decode_fits-fits.ensures c.data_count-n.ensures refl c.requires.2 c.requires.4 in
     let made = c.decode_state-tally.ensures.done ∙ ap (decoded code a.thresholds.now) c.load_page.ensures in
     let zeros : List ℕ = c.decode_state-tally.new.zeros ++ drop c.data_count-n.result a.zeros.now in
     let room : data_count code ≤ length zeros =
@@ -162,9 +158,8 @@ returns g c =
     let w = g.S.WideSymbol in
     let n = g.met.S.Symbol.are_numbers in
     let code = wide_code_by w.profile a.code a.positions.now in
-    let e = c.decode_answer-number.ensures (g.S.Symbol.numbers a.page.now) c.all_below.ensures in
-    let t = tested n code a.page.now a.res.now a.syndrome.now a.difference.now a.thresholds.now a.margins.now a.zeros.now a.marks.now e c.decode_fits-fits.ensures c.data_count-n.ensures
-    c.if-number-ne0.false c.requires.2 c.requires.4 in
+    let e = c.in_ok-decode_answer.ensures (w.numbers a.page.now) c.all_below.ensures in
+    let t = tested n code a.page.now a.res.now a.syndrome.now a.difference.now a.thresholds.now a.margins.now a.zeros.now a.marks.now e c.decode_fits-fits.ensures c.data_count-n.ensures refl c.requires.2 c.requires.4 in
     let made = c.decode_state-tally.ensures.done ∙ ap (decoded code a.thresholds.now) c.load_page.ensures in
     left_as_done _ _ _ _ t.done
     (λ i. record {
