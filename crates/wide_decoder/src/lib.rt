@@ -6,10 +6,13 @@ ghost use Rattle.model.specs.Code.{wide_code};
 ghost use Rattle.model.specs.Decoder.{state_by};
 ghost use Rattle.model.specs.Calls.{decode_outcome};
 ghost use Rattle.model.specs.Demand.{DecodeFalls, DecodeRecovers};
+ghost use Rattle.refusals.specs.Numbers.{answer};
+ghost use Rattle.tally.specs.Counts.{counts_in};
 ghost use Rattle.wide_symbols.specs.Codes.{wide_code_by};
 
 use params::Params;
-pub use tally::Decoded;
+pub use refusals::Refusal;
+pub use tally::Tally;
 use wide_symbols::WideSymbol;
 
 // Decode with buffers for N data symbols.
@@ -22,14 +25,14 @@ fn decode_within<S: WideSymbol, const N: usize>(
     syndrome: &mut [S],
     difference: &mut [S],
     margins: &mut [i32],
-) -> Decoded
+) -> Result<Tally, Refusal>
     requires { (code.k ≤ 4294967295) × (code.b ≤ 4294967295) × (code.b * code.k ≤ 4096 → code.b * code.k ≤ N) × (N ≤ 4096) }
     ensures { record {
-      number = result.number;
+      number = answer result;
       left = record {
         state = state_by (S.numbers res.new) (S.numbers syndrome.new) (S.numbers difference.new);
         margins = margins.new;
-        counts = record { passes = result.tally.passes; changes = result.tally.changes; start = result.tally.start; end = result.tally.end };
+        counts = counts_in result;
       };
     } ≡ decode_outcome (wide_code_by S.profile code positions.now) true (S.numbers page.now) thresholds.now
         (state_by (S.numbers res.old) (S.numbers syndrome.old) (S.numbers difference.old)) margins.old }
@@ -53,19 +56,19 @@ pub fn decode<S: WideSymbol>(
     syndrome: &mut [S],
     difference: &mut [S],
     margins: &mut [i32],
-) -> Decoded
+) -> Result<Tally, Refusal>
     ensures outcome { record {
-      number = result.number;
+      number = answer result;
       left = record {
         state = state_by (S.numbers res.new) (S.numbers syndrome.new) (S.numbers difference.new);
         margins = margins.new;
-        counts = record { passes = result.tally.passes; changes = result.tally.changes; start = result.tally.start; end = result.tally.end };
+        counts = counts_in result;
       };
     } ≡ decode_outcome (wide_code S.profile k b positions.now) true (S.numbers page.now) thresholds.now
         (state_by (S.numbers res.old) (S.numbers syndrome.old) (S.numbers difference.old)) margins.old }
-    ensures falling { result.number ≡ 0 → DecodeFalls (wide_code S.profile k b positions.now) thresholds.now (S.numbers page.now)
-        (record { passes = result.tally.passes; changes = result.tally.changes; start = result.tally.start; end = result.tally.end }) }
-    ensures recovery { result.number ≡ 0 → DecodeRecovers (wide_code S.profile k b positions.now) thresholds.now (S.numbers page.now) (S.numbers res.new) }
+    ensures falling { answer result ≡ 0 → DecodeFalls (wide_code S.profile k b positions.now) thresholds.now (S.numbers page.now)
+        (counts_in result) }
+    ensures recovery { answer result ≡ 0 → DecodeRecovers (wide_code S.profile k b positions.now) thresholds.now (S.numbers page.now) (S.numbers res.new) }
 {
     let code = Params {
         q: 256,
