@@ -1,15 +1,17 @@
 // The call pass on wide symbols. It takes no q, and that of `Params` is not read.
 #![tactic(auto)]
 
-ghost use Rattle.std.specs.Prelude.{◌≡◌, true, ◌*◌, ◌≤◌};
+ghost use Rattle.std.specs.Prelude.{◌≡◌, true, ◌*◌, ◌≤◌, OnOk};
+ghost use Rattle.std.specs.Result.{result_unwrap_or};
 ghost use Rattle.model.specs.Code.{wide_code};
 ghost use Rattle.model.specs.Decoder.{state_by};
 ghost use Rattle.model.specs.Calls.{pass_outcome};
 ghost use Rattle.model.specs.Demand.{PassFalls};
+ghost use Rattle.refusals.specs.Numbers.{answer};
 ghost use Rattle.wide_symbols.specs.Codes.{wide_code_by};
 
 use params::Params;
-pub use passing::Passed;
+use refusals::Refusal;
 use tally::Tally;
 use wide_symbols::WideSymbol;
 
@@ -21,25 +23,22 @@ fn pass_within<S: WideSymbol, const N: usize>(
     res: &mut [S],
     syndrome: &mut [S],
     difference: &mut [S],
-) -> Passed
+) -> Result<u32, Refusal>
     requires { (code.k ≤ 4294967295) × (code.b ≤ 4294967295) × (code.b * code.k ≤ 4096 → code.b * code.k ≤ N) × (N ≤ 4096) }
     ensures outcome { record {
-      number = result.number;
-      left = record { state = state_by (S.numbers res.new) (S.numbers syndrome.new) (S.numbers difference.new); changes = result.changes };
+      number = answer result;
+      left = record { state = state_by (S.numbers res.new) (S.numbers syndrome.new) (S.numbers difference.new); changes = result_unwrap_or result 0 };
     } ≡ pass_outcome (wide_code_by S.profile code positions.now) true threshold
         (state_by (S.numbers res.old) (S.numbers syndrome.old) (S.numbers difference.old)) }
-    ensures falling { result.number ≡ 0 → PassFalls (wide_code_by S.profile code positions.now) threshold
-        (state_by (S.numbers res.old) (S.numbers syndrome.old) (S.numbers difference.old)) }
+    ensures falling { OnOk result (PassFalls (wide_code_by S.profile code positions.now) threshold
+        (state_by (S.numbers res.old) (S.numbers syndrome.old) (S.numbers difference.old))) }
 {
     let n = params::data_count(code);
     let fits = lengths::state_fits(true, n, code.k, res.len(), syndrome.len(), difference.len());
     S::all_below(res);
     S::all_below(syndrome);
     S::all_below(difference);
-    let number = wide_answers::pass_answer::<S>(code, positions, fits, threshold);
-    if number != 0 {
-        return Passed { number, changes: 0 };
-    }
+    wide_answers::pass_answer::<S>(code, positions, fits, threshold)?;
     let k = code.k;
     let mut zeros = [0u8; N];
     let mut marks = [0u8; N];
@@ -56,10 +55,7 @@ fn pass_within<S: WideSymbol, const N: usize>(
         &mut marks[..k],
         opened,
     );
-    Passed {
-        number: 0,
-        changes: tally.changes,
-    }
+    Ok(tally.changes)
 }
 
 // One pass with one threshold on the result, S and D. A small code clears small buffers.
@@ -71,14 +67,14 @@ pub fn pass<S: WideSymbol>(
     res: &mut [S],
     syndrome: &mut [S],
     difference: &mut [S],
-) -> Passed
+) -> Result<u32, Refusal>
     ensures outcome { record {
-      number = result.number;
-      left = record { state = state_by (S.numbers res.new) (S.numbers syndrome.new) (S.numbers difference.new); changes = result.changes };
+      number = answer result;
+      left = record { state = state_by (S.numbers res.new) (S.numbers syndrome.new) (S.numbers difference.new); changes = result_unwrap_or result 0 };
     } ≡ pass_outcome (wide_code S.profile k b positions.now) true threshold
         (state_by (S.numbers res.old) (S.numbers syndrome.old) (S.numbers difference.old)) }
-    ensures falling { result.number ≡ 0 → PassFalls (wide_code S.profile k b positions.now) threshold
-        (state_by (S.numbers res.old) (S.numbers syndrome.old) (S.numbers difference.old)) }
+    ensures falling { OnOk result (PassFalls (wide_code S.profile k b positions.now) threshold
+        (state_by (S.numbers res.old) (S.numbers syndrome.old) (S.numbers difference.old))) }
 {
     let code = Params {
         q: 256,

@@ -1,8 +1,10 @@
-use Rattle.std.proofs.Common.{◌≡◌, Bool, true, ◌&&◌, List, ℕ, ◌≤◌, eqb, length, length-take-le, mul-le-mul_right, ap, sym, ◌∙◌, arith}
+use Rattle.std.proofs.Common.{◌≡◌, refl, Bool, true, ◌&&◌, List, ℕ, ◌≤◌, eqb, length, length-take-le, mul-le-mul_right, ap, sym, ◌∙◌, arith}
 use Rattle.std.proofs.lemmas.List.{length-replicate}
+use Rattle.std.proofs.lemmas.Result.{err_from_is_err_and}
 use Rattle.model.specs.Calls.{state_fits, pass_answer, pass_outcome}
 use Rattle.model.specs.Code.{Code, data_count, highest}
 use Rattle.model.specs.Decoder.{state_by}
+use Rattle.refusals.specs.Numbers.{not_zero}
 use Rattle.passing.specs.Once.{once_state, once_changes}
 use Rattle.tally.specs.declared.Tally.{Tally}
 use Rattle.theory.specs.Answers.{PassTaken, pass_taken, table_usable}
@@ -48,17 +50,18 @@ module _ {S : Type 0} {number : S → ℕ} {numbers : List S → List ℕ} (w : 
         mark-room = omega (arith, mul-le-mul_right c.k size.b_low, h size.data-high);
       }
 
-pub returns-then-number-ne0-clause-outcome : goal.returns-then-number-ne0-clause-outcome
+pub returns-in_err-pass_answer : goal.returns-in_err-pass_answer
 unfolding pass_outcome
-returns-then-number-ne0-clause-outcome g c =
+returns-in_err-pass_answer g c =
     let a = c.args in
     let w = g.S.WideSymbol in
     let n = g.met.S.Symbol.are_numbers in
     let code = wide_code_by w.profile a.code a.positions.now in
-    let lent = state_by (g.S.Symbol.numbers a.res.now) (g.S.Symbol.numbers a.syndrome.now) (g.S.Symbol.numbers a.difference.now) in
-    let e = c.pass_answer-number.ensures lent (state_low (highest w.profile) (omega (arith, wide_low g.met.S.WideSymbol.is_wide)) lent c.all_below.ensures c.all_below-2.ensures c.all_below-3.ensures) in
+    let lent = state_by (w.numbers a.res.now) (w.numbers a.syndrome.now) (w.numbers a.difference.now) in
+    let e = c.in_err-pass_answer.ensures lent (state_low (highest w.profile) (omega (arith, wide_low g.met.S.WideSymbol.is_wide)) lent c.all_below.ensures c.all_below-2.ensures c.all_below-3.ensures) in
     let r = answered n code a.res.now a.syndrome.now a.difference.now a.threshold e c.state_fits-fits.ensures c.data_count-n.ensures in
-    left_as_lent _ _ _ _ r c.if-number-ne0.true
+    let p = err_from_is_err_and c.from_residual.result c.from_residual.ensures.1 in
+    record { outcome = rw (p.1, p.2) (left_as_lent _ _ _ _ r (not_zero _)); falling = rw p.1 tt }
 
 pub overflow_cast-thresholds : goal.overflow_cast-thresholds
 overflow_cast-thresholds g c =
@@ -66,9 +69,9 @@ overflow_cast-thresholds g c =
     let w = g.S.WideSymbol in
     let n = g.met.S.Symbol.are_numbers in
     let code = wide_code_by w.profile a.code a.positions.now in
-    let lent = state_by (g.S.Symbol.numbers a.res.now) (g.S.Symbol.numbers a.syndrome.now) (g.S.Symbol.numbers a.difference.now) in
-    let e = c.pass_answer-number.ensures lent (state_low (highest w.profile) (omega (arith, wide_low g.met.S.WideSymbol.is_wide)) lent c.all_below.ensures c.all_below-2.ensures c.all_below-3.ensures) in
-    let t = tested n code a.res.now a.syndrome.now a.difference.now a.threshold g.row.N e c.state_fits-fits.ensures c.data_count-n.ensures c.if-number-ne0.false c.requires.2 in
+    let lent = state_by (w.numbers a.res.now) (w.numbers a.syndrome.now) (w.numbers a.difference.now) in
+    let e = c.in_ok-pass_answer.ensures lent (state_low (highest w.profile) (omega (arith, wide_low g.met.S.WideSymbol.is_wide)) lent c.all_below.ensures c.all_below-2.ensures c.all_below-3.ensures) in
+    let t = tested n code a.res.now a.syndrome.now a.difference.now a.threshold g.row.N e c.state_fits-fits.ensures c.data_count-n.ensures refl c.requires.2 in
     omega (arith, t.taken.small)
 
 pub whole_as_front-run : goal.whole_as_front-run
@@ -77,9 +80,9 @@ whole_as_front-run g c =
     let w = g.S.WideSymbol in
     let n = g.met.S.Symbol.are_numbers in
     let code = wide_code_by w.profile a.code a.positions.now in
-    let lent = state_by (g.S.Symbol.numbers a.res.now) (g.S.Symbol.numbers a.syndrome.now) (g.S.Symbol.numbers a.difference.now) in
-    let e = c.pass_answer-number.ensures lent (state_low (highest w.profile) (omega (arith, wide_low g.met.S.WideSymbol.is_wide)) lent c.all_below.ensures c.all_below-2.ensures c.all_below-3.ensures) in
-    let t = tested n code a.res.now a.syndrome.now a.difference.now a.threshold g.row.N e c.state_fits-fits.ensures c.data_count-n.ensures c.if-number-ne0.false c.requires.2 in
+    let lent = state_by (w.numbers a.res.now) (w.numbers a.syndrome.now) (w.numbers a.difference.now) in
+    let e = c.in_ok-pass_answer.ensures lent (state_low (highest w.profile) (omega (arith, wide_low g.met.S.WideSymbol.is_wide)) lent c.all_below.ensures c.all_below-2.ensures c.all_below-3.ensures) in
+    let t = tested n code a.res.now a.syndrome.now a.difference.now a.threshold g.row.N e c.state_fits-fits.ensures c.data_count-n.ensures refl c.requires.2 in
     (t.room, omega arith)
 
 pub whole_as_front-run-2 : goal.whole_as_front-run-2
@@ -88,9 +91,9 @@ whole_as_front-run-2 g c =
     let w = g.S.WideSymbol in
     let n = g.met.S.Symbol.are_numbers in
     let code = wide_code_by w.profile a.code a.positions.now in
-    let lent = state_by (g.S.Symbol.numbers a.res.now) (g.S.Symbol.numbers a.syndrome.now) (g.S.Symbol.numbers a.difference.now) in
-    let e = c.pass_answer-number.ensures lent (state_low (highest w.profile) (omega (arith, wide_low g.met.S.WideSymbol.is_wide)) lent c.all_below.ensures c.all_below-2.ensures c.all_below-3.ensures) in
-    let t = tested n code a.res.now a.syndrome.now a.difference.now a.threshold g.row.N e c.state_fits-fits.ensures c.data_count-n.ensures c.if-number-ne0.false c.requires.2 in
+    let lent = state_by (w.numbers a.res.now) (w.numbers a.syndrome.now) (w.numbers a.difference.now) in
+    let e = c.in_ok-pass_answer.ensures lent (state_low (highest w.profile) (omega (arith, wide_low g.met.S.WideSymbol.is_wide)) lent c.all_below.ensures c.all_below-2.ensures c.all_below-3.ensures) in
+    let t = tested n code a.res.now a.syndrome.now a.difference.now a.threshold g.row.N e c.state_fits-fits.ensures c.data_count-n.ensures refl c.requires.2 in
     (t.mark-room, omega arith)
 
 pub run-tally-requires : goal.run-tally-requires
@@ -99,9 +102,9 @@ run-tally-requires g c =
     let w = g.S.WideSymbol in
     let n = g.met.S.Symbol.are_numbers in
     let code = wide_code_by w.profile a.code a.positions.now in
-    let lent = state_by (g.S.Symbol.numbers a.res.now) (g.S.Symbol.numbers a.syndrome.now) (g.S.Symbol.numbers a.difference.now) in
-    let e = c.pass_answer-number.ensures lent (state_low (highest w.profile) (omega (arith, wide_low g.met.S.WideSymbol.is_wide)) lent c.all_below.ensures c.all_below-2.ensures c.all_below-3.ensures) in
-    let t = tested n code a.res.now a.syndrome.now a.difference.now a.threshold g.row.N e c.state_fits-fits.ensures c.data_count-n.ensures c.if-number-ne0.false c.requires.2 in
+    let lent = state_by (w.numbers a.res.now) (w.numbers a.syndrome.now) (w.numbers a.difference.now) in
+    let e = c.in_ok-pass_answer.ensures lent (state_low (highest w.profile) (omega (arith, wide_low g.met.S.WideSymbol.is_wide)) lent c.all_below.ensures c.all_below-2.ensures c.all_below-3.ensures) in
+    let t = tested n code a.res.now a.syndrome.now a.difference.now a.threshold g.row.N e c.state_fits-fits.ensures c.data_count-n.ensures refl c.requires.2 in
     let long = length-replicate {A = ℕ} g.row.N 0 in (
       record { usable = table_usable code t.taken.table; bytes = omega arith; sized = t.taken.sized },
       omega arith,
@@ -118,9 +121,9 @@ returns-clause-outcome g c =
     let w = g.S.WideSymbol in
     let n = g.met.S.Symbol.are_numbers in
     let code = wide_code_by w.profile a.code a.positions.now in
-    let lent = state_by (g.S.Symbol.numbers a.res.now) (g.S.Symbol.numbers a.syndrome.now) (g.S.Symbol.numbers a.difference.now) in
-    let e = c.pass_answer-number.ensures lent (state_low (highest w.profile) (omega (arith, wide_low g.met.S.WideSymbol.is_wide)) lent c.all_below.ensures c.all_below-2.ensures c.all_below-3.ensures) in
-    let t = tested n code a.res.now a.syndrome.now a.difference.now a.threshold g.row.N e c.state_fits-fits.ensures c.data_count-n.ensures c.if-number-ne0.false c.requires.2 in
+    let lent = state_by (w.numbers a.res.now) (w.numbers a.syndrome.now) (w.numbers a.difference.now) in
+    let e = c.in_ok-pass_answer.ensures lent (state_low (highest w.profile) (omega (arith, wide_low g.met.S.WideSymbol.is_wide)) lent c.all_below.ensures c.all_below-2.ensures c.all_below-3.ensures) in
+    let t = tested n code a.res.now a.syndrome.now a.difference.now a.threshold g.row.N e c.state_fits-fits.ensures c.data_count-n.ensures refl c.requires.2 in
     let f = c.run-tally.ensures.ran in
     left_as_done _ _ _ _ t.done (λ i. record { state = once_state _ _ _ _ f i; changes = once_changes _ _ _ _ f (ap (λ (y : Tally). y.changes) c.opened-opened.ensures) i })
 
@@ -130,7 +133,7 @@ returns-clause-falling g c =
     let w = g.S.WideSymbol in
     let n = g.met.S.Symbol.are_numbers in
     let code = wide_code_by w.profile a.code a.positions.now in
-    let lent = state_by (g.S.Symbol.numbers a.res.now) (g.S.Symbol.numbers a.syndrome.now) (g.S.Symbol.numbers a.difference.now) in
-    let e = c.pass_answer-number.ensures lent (state_low (highest w.profile) (omega (arith, wide_low g.met.S.WideSymbol.is_wide)) lent c.all_below.ensures c.all_below-2.ensures c.all_below-3.ensures) in
-    let t = tested n code a.res.now a.syndrome.now a.difference.now a.threshold g.row.N e c.state_fits-fits.ensures c.data_count-n.ensures c.if-number-ne0.false c.requires.2 in
-    λ z. pass_falls code true a.threshold lent (sym t.done)
+    let lent = state_by (w.numbers a.res.now) (w.numbers a.syndrome.now) (w.numbers a.difference.now) in
+    let e = c.in_ok-pass_answer.ensures lent (state_low (highest w.profile) (omega (arith, wide_low g.met.S.WideSymbol.is_wide)) lent c.all_below.ensures c.all_below-2.ensures c.all_below-3.ensures) in
+    let t = tested n code a.res.now a.syndrome.now a.difference.now a.threshold g.row.N e c.state_fits-fits.ensures c.data_count-n.ensures refl c.requires.2 in
+    pass_falls code true a.threshold lent (sym t.done)
