@@ -12,15 +12,17 @@ ghost use Rattle.visits.specs.Progress.{progress};
 ghost use Rattle.zeros.specs.Counts.{zero_counts};
 ghost use Rattle.margins.specs.Margins.{Left};
 ghost use Rattle.correction.specs.Decoded.{decoded};
+ghost use Rattle.refusals.specs.Numbers.{answer};
 ghost use Rattle.wide_symbols.specs.Codes.{wide_code_by};
 ghost use Rattle.c_wide.specs.Decodes.{decode_number, left_bytes};
 
 use params::Params;
+use refusals::Refusal;
 use tally::Tally;
 use wide_symbols::WideSymbol;
 
 // The tests, by the numbers of symbols that the bytes stand for.
-pub fn decode_number<S: WideSymbol>(
+pub fn decode_answer<S: WideSymbol>(
     code: Params,
     positions: &[u16],
     page: &[u8],
@@ -30,9 +32,9 @@ pub fn decode_number<S: WideSymbol>(
     difference: &[u8],
     margins: &[u8],
     counts: &[u8],
-) -> u32
+) -> Result<(), Refusal>
     requires { (code.k ≤ 4294967295) × (code.b ≤ 4294967295) }
-    ensures { result ≡ decode_number (symbol_size S.profile) (wide_code_by S.profile code positions.now) page.now thresholds.now
+    ensures { answer result ≡ decode_number (symbol_size S.profile) (wide_code_by S.profile code positions.now) page.now thresholds.now
         (state_by res.now syndrome.now difference.now) margins.now counts.now }
 {
     let n = params::data_count(code);

@@ -6,7 +6,7 @@ use Rattle.model.specs.Calls.{decode_answer}
 use Rattle.params.specs.Sizes.{sizes_fit}
 use Rattle.wide_bytes.specs.Places.{wide_below}
 use Rattle.wide_symbols.specs.Codes.{wide_code_by}
-use Rattle.c_wide_receiver.proofs.decode_number.Goals as goal
+use Rattle.c_wide_receiver.proofs.decode_answer.Goals as goal
 
 pub data_count-n-requires : goal.data_count-n-requires
 data_count-n-requires g c = omega (arith, sizes_fit c.args.code.k c.args.code.b c.requires.0 c.requires.1)
