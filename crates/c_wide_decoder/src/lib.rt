@@ -6,10 +6,11 @@ ghost use Rattle.model.specs.Code.{wide_code};
 ghost use Rattle.model.specs.Decoder.{state_by, decoded_counts};
 ghost use Rattle.model.specs.Bytes.{symbol_size, symbols_of, positions_of, wide_decode_outcome};
 ghost use Rattle.model.specs.Demand.{DecodeFalls, DecodeRecovers};
+ghost use Rattle.refusals.specs.Numbers.{answer};
 ghost use Rattle.wide_symbols.specs.Codes.{wide_code_by};
 
 use params::Params;
-use wide_buffers::SmallSymbol;
+use refusals::Refusal;
 
 // Decodes a page, with a table whose positions a buffer of M holds.
 fn decode_with<S: SmallSymbol, const M: usize>(
@@ -22,12 +23,12 @@ fn decode_with<S: SmallSymbol, const M: usize>(
     difference: &mut [u8],
     margins: &mut [u8],
     counts: &mut [u8],
-) -> u32
+) -> Result<(), Refusal>
     requires { (code.k ≤ 4294967295) × (code.b ≤ 4294967295)
         × (length table.now ≤ 512 → length table.now ≤ M + M)
         × (M ≤ 256) }
     ensures { record {
-      number = result;
+      number = answer result;
       left = record {
         state = state_by res.new syndrome.new difference.new;
         margins = margins.new;
@@ -39,29 +40,26 @@ fn decode_with<S: SmallSymbol, const M: usize>(
     let mut read = [0u16; M];
     let count = position_bytes::read_positions(table, &mut read);
     let positions = &read[..count];
-    let number = c_wide_receiver::decode_number::<S>(
+    c_wide_receiver::decode_answer::<S>(
         code, positions, page, thresholds, res, syndrome, difference, margins, counts,
-    );
-    if number != 0 {
-        return number;
-    }
+    )?;
     let n = params::data_count(code);
     if n <= 128 {
         c_wide_sized::decode_within::<S, 128>(
             code, positions, page, thresholds, res, syndrome, difference, margins, counts,
         );
-        return 0;
+        return Ok(());
     }
     if n <= 1024 {
         c_wide_sized::decode_within::<S, 1024>(
             code, positions, page, thresholds, res, syndrome, difference, margins, counts,
         );
-        return 0;
+        return Ok(());
     }
     c_wide_sized::decode_within::<S, 4096>(
         code, positions, page, thresholds, res, syndrome, difference, margins, counts,
     );
-    0
+    Ok(())
 }
 
 // Decodes a page. A small table is read into a small buffer, which costs less to clear.
@@ -76,9 +74,9 @@ pub fn decode<S: SmallSymbol>(
     difference: &mut [u8],
     margins: &mut [u8],
     counts: &mut [u8],
-) -> u32
+) -> Result<(), Refusal>
     ensures outcome { record {
-      number = result;
+      number = answer result;
       left = record {
         state = state_by res.new syndrome.new difference.new;
         margins = margins.new;
@@ -86,9 +84,9 @@ pub fn decode<S: SmallSymbol>(
       };
     } ≡ wide_decode_outcome (wide_code S.profile k b (positions_of table.now)) page.now thresholds.now
         (state_by res.old syndrome.old difference.old) margins.old counts.old }
-    ensures falling { result ≡ 0 → DecodeFalls (wide_code S.profile k b (positions_of table.now)) thresholds.now (symbols_of (symbol_size S.profile) page.now)
+    ensures falling { answer result ≡ 0 → DecodeFalls (wide_code S.profile k b (positions_of table.now)) thresholds.now (symbols_of (symbol_size S.profile) page.now)
         (decoded_counts (wide_code S.profile k b (positions_of table.now)) thresholds.now (symbols_of (symbol_size S.profile) page.now)) }
-    ensures recovery { result ≡ 0 → DecodeRecovers (wide_code S.profile k b (positions_of table.now)) thresholds.now (symbols_of (symbol_size S.profile) page.now)
+    ensures recovery { answer result ≡ 0 → DecodeRecovers (wide_code S.profile k b (positions_of table.now)) thresholds.now (symbols_of (symbol_size S.profile) page.now)
         (symbols_of (symbol_size S.profile) res.new) }
 {
     let code = Params {

@@ -1,10 +1,12 @@
--- The tests give the number; refused, all is as it was lent; done, the buffers of one of the three sizes are large enough.
-use Rattle.std.proofs.Common.{◌≡◌, ◌≢◌, List, ℕ, sym, ◌∙◌, arith}
+-- Refused, all is as it was lent; done, the buffers of one of the three sizes are large enough.
+use Rattle.std.proofs.Common.{◌≡◌, refl, ◌≢◌, List, ℕ, sym, ◌∙◌, arith}
+use Rattle.std.proofs.lemmas.Result.{err_from_is_err_and}
 use Rattle.model.specs.Bytes.{symbol_size, positions_of, wide_decode_outcome}
 use Rattle.model.specs.Calls.{Decoded, outcome}
 use Rattle.model.specs.Code.{Code, Profile, highest}
 use Rattle.model.specs.Decoder.{State, state_by}
 use Rattle.params.specs.declared.Params.{Params}
+use Rattle.refusals.specs.Numbers.{not_zero}
 use Rattle.theory.specs.Outcomes.{left_as_lent, left_as_done}
 use Rattle.theory.specs.WideCalls.{Wide}
 use Rattle.position_bytes.specs.Positions.{kept}
@@ -39,54 +41,55 @@ module _ (f : Profile) (p : Params) (table xs : List ℕ) (e : xs ≡ kept (posi
   taken : Wide code → (r : ℕ) → r ≡ numbered → r ≡ 0 → DecodeTakes (symbol_size f) code page ts lent margins counts
   taken w r n z = decode_takes (symbol_size f) w.some code page ts lent margins counts (sym n ∙ z)
 
-pub returns-then-number-ne0 : goal.returns-then-number-ne0
-returns-then-number-ne0 g c =
+pub returns-in_err-decode_answer : goal.returns-in_err-decode_answer
+returns-in_err-decode_answer g c =
     let a = c.args in
-    refused g.S.WideSymbol.profile a.code a.table.now _ c.read_positions-count.ensures.read a.page.now a.thresholds.now (state_by a.res.now a.syndrome.now a.difference.now) a.margins.now a.counts.now
-    _ c.decode_number-number.ensures c.if-number-ne0.true
+    let p = err_from_is_err_and c.from_residual.result c.from_residual.ensures.1 in
+    rw (p.1, p.2) (refused g.S.WideSymbol.profile a.code a.table.now _ c.read_positions-count.ensures.read a.page.now a.thresholds.now (state_by a.res.now a.syndrome.now a.difference.now) a.margins.now a.counts.now
+    _ c.in_err-decode_answer.ensures (not_zero _))
 
 pub data_count-n-requires : goal.data_count-n-requires
 data_count-n-requires g c =
     let a = c.args in
     let t = taken g.S.WideSymbol.profile a.code a.table.now _ c.read_positions-count.ensures.read a.page.now a.thresholds.now (state_by a.res.now a.syndrome.now a.difference.now) a.margins.now a.counts.now
-    (own g.met.S.WideSymbol.is_wide a.code _) _ c.decode_number-number.ensures c.if-number-ne0.false in
+    (own g.met.S.WideSymbol.is_wide a.code _) _ c.in_ok-decode_answer.ensures refl in
     omega (arith, t.taken.opens.usable.table.sizes.data-high)
 
 pub decode_within-requires : goal.decode_within-requires
 decode_within-requires g c =
     let a = c.args in
     let t = taken g.S.WideSymbol.profile a.code a.table.now _ c.read_positions-count.ensures.read a.page.now a.thresholds.now (state_by a.res.now a.syndrome.now a.difference.now) a.margins.now a.counts.now
-    (own g.met.S.WideSymbol.is_wide a.code _) _ c.decode_number-number.ensures c.if-number-ne0.false in
+    (own g.met.S.WideSymbol.is_wide a.code _) _ c.in_ok-decode_answer.ensures refl in
     (omega arith, t, omega (arith, c.data_count-n.ensures, t.taken.opens.usable.table.sizes.data-high))
 
 pub returns-then-n-le128 : goal.returns-then-n-le128
 returns-then-n-le128 g c =
     let a = c.args in
     finished g.S.WideSymbol.profile a.code a.table.now _ c.read_positions-count.ensures.read a.page.now a.thresholds.now (state_by a.res.now a.syndrome.now a.difference.now) a.margins.now a.counts.now
-    _ c.decode_number-number.ensures c.if-number-ne0.false _ c.decode_within.ensures
+    _ c.in_ok-decode_answer.ensures refl _ c.decode_within.ensures
 
 pub decode_within-requires-then-n-le1024 : goal.decode_within-requires-then-n-le1024
 decode_within-requires-then-n-le1024 g c =
     let a = c.args in
     let t = taken g.S.WideSymbol.profile a.code a.table.now _ c.read_positions-count.ensures.read a.page.now a.thresholds.now (state_by a.res.now a.syndrome.now a.difference.now) a.margins.now a.counts.now
-    (own g.met.S.WideSymbol.is_wide a.code _) _ c.decode_number-number.ensures c.if-number-ne0.false in
+    (own g.met.S.WideSymbol.is_wide a.code _) _ c.in_ok-decode_answer.ensures refl in
     (omega arith, t, omega (arith, c.data_count-n.ensures, t.taken.opens.usable.table.sizes.data-high))
 
 pub returns-then-n-le1024 : goal.returns-then-n-le1024
 returns-then-n-le1024 g c =
     let a = c.args in
     finished g.S.WideSymbol.profile a.code a.table.now _ c.read_positions-count.ensures.read a.page.now a.thresholds.now (state_by a.res.now a.syndrome.now a.difference.now) a.margins.now a.counts.now
-    _ c.decode_number-number.ensures c.if-number-ne0.false _ c.decode_within-then-n-le1024.ensures
+    _ c.in_ok-decode_answer.ensures refl _ c.decode_within-then-n-le1024.ensures
 
 pub decode_within-requires-2 : goal.decode_within-requires-2
 decode_within-requires-2 g c =
     let a = c.args in
     let t = taken g.S.WideSymbol.profile a.code a.table.now _ c.read_positions-count.ensures.read a.page.now a.thresholds.now (state_by a.res.now a.syndrome.now a.difference.now) a.margins.now a.counts.now
-    (own g.met.S.WideSymbol.is_wide a.code _) _ c.decode_number-number.ensures c.if-number-ne0.false in
+    (own g.met.S.WideSymbol.is_wide a.code _) _ c.in_ok-decode_answer.ensures refl in
     (omega arith, t, omega (arith, c.data_count-n.ensures, t.taken.opens.usable.table.sizes.data-high))
 
 pub returns : goal.returns
 returns g c =
     let a = c.args in
     finished g.S.WideSymbol.profile a.code a.table.now _ c.read_positions-count.ensures.read a.page.now a.thresholds.now (state_by a.res.now a.syndrome.now a.difference.now) a.margins.now a.counts.now
-    _ c.decode_number-number.ensures c.if-number-ne0.false _ c.decode_within-2.ensures
+    _ c.in_ok-decode_answer.ensures refl _ c.decode_within-2.ensures
