@@ -8,15 +8,17 @@ ghost use Rattle.model.specs.Code.{data_count, check_count};
 ghost use Rattle.model.specs.Decoder.{state_by};
 ghost use Rattle.model.specs.Bytes.{symbol_size, state_read, state_written};
 ghost use Rattle.theory.specs.Counters.{Clear};
+ghost use Rattle.refusals.specs.Numbers.{answer};
 ghost use Rattle.wide_symbols.specs.Codes.{wide_code_by};
 ghost use Rattle.c_wide.specs.Decodes.{pass_number, PassTakes};
 
 use params::Params;
+use refusals::Refusal;
 use tally::Tally;
 use wide_symbols::WideSymbol;
 
 // The tests, by the numbers of symbols that the bytes stand for.
-pub fn pass_number<S: WideSymbol>(
+pub fn pass_answer<S: WideSymbol>(
     code: Params,
     positions: &[u16],
     threshold: u32,
@@ -24,9 +26,9 @@ pub fn pass_number<S: WideSymbol>(
     syndrome: &[u8],
     difference: &[u8],
     changes: &[u8],
-) -> u32
+) -> Result<(), Refusal>
     requires { (code.k ≤ 4294967295) × (code.b ≤ 4294967295) }
-    ensures { result ≡ pass_number (symbol_size S.profile) (wide_code_by S.profile code positions.now) threshold
+    ensures { answer result ≡ pass_number (symbol_size S.profile) (wide_code_by S.profile code positions.now) threshold
         (state_by res.now syndrome.now difference.now) changes.now }
 {
     let n = params::data_count(code);

@@ -9,7 +9,7 @@ use Rattle.theory.specs.Profiles.{state_low}
 use Rattle.wide_bytes.specs.Places.{wide_below}
 use Rattle.wide_symbols.specs.Codes.{wide_code_by}
 use Rattle.wide_symbols.specs.Widths.{wide_low}
-use Rattle.c_wide_passes.proofs.pass_number.Goals as goal
+use Rattle.c_wide_passes.proofs.pass_answer.Goals as goal
 
 pub data_count-n-requires : goal.data_count-n-requires
 data_count-n-requires g c = omega (arith, sizes_fit c.args.code.k c.args.code.b c.requires.0 c.requires.1)
