@@ -6,9 +6,11 @@ ghost use Rattle.model.specs.Code.{wide_code};
 ghost use Rattle.model.specs.Decoder.{state_by};
 ghost use Rattle.model.specs.Bytes.{symbol_size, state_read, positions_of, wide_pass_outcome};
 ghost use Rattle.model.specs.Demand.{PassFalls};
+ghost use Rattle.refusals.specs.Numbers.{answer};
 ghost use Rattle.wide_symbols.specs.Codes.{wide_code_by};
 
 use params::Params;
+use refusals::Refusal;
 use wide_buffers::SmallSymbol;
 
 // One pass, with a buffer for the N positions that the table may have.
@@ -20,10 +22,10 @@ fn pass_by<S: SmallSymbol, const N: usize>(
     syndrome: &mut [u8],
     difference: &mut [u8],
     changes: &mut [u8],
-) -> u32
+) -> Result<(), Refusal>
     requires { (code.k ≤ 4294967295) × (code.b ≤ 4294967295) × (length table.now ≤ 512 → length table.now ≤ N + N) × (N ≤ 256) }
     ensures { record {
-      number = result;
+      number = answer result;
       left = record { state = state_by res.new syndrome.new difference.new; changes = changes.new };
     } ≡ wide_pass_outcome (wide_code_by S.profile code (positions_of table.now)) threshold
         (state_by res.old syndrome.old difference.old) changes.old }
@@ -31,29 +33,26 @@ fn pass_by<S: SmallSymbol, const N: usize>(
     let mut places = [0u16; N];
     let count = position_bytes::read_positions(table, &mut places);
     let positions = &places[..count];
-    let number = c_wide_passes::pass_number::<S>(
+    c_wide_passes::pass_answer::<S>(
         code, positions, threshold, res, syndrome, difference, changes,
-    );
-    if number != 0 {
-        return number;
-    }
+    )?;
     let n = params::data_count(code);
     if n <= 128 {
         c_wide_pass_sized::pass_within::<S, 128>(
             code, positions, threshold, res, syndrome, difference, changes,
         );
-        return 0;
+        return Ok(());
     }
     if n <= 1024 {
         c_wide_pass_sized::pass_within::<S, 1024>(
             code, positions, threshold, res, syndrome, difference, changes,
         );
-        return 0;
+        return Ok(());
     }
     c_wide_pass_sized::pass_within::<S, 4096>(
         code, positions, threshold, res, syndrome, difference, changes,
     );
-    0
+    Ok(())
 }
 
 // One pass. A small table is read into a small buffer, which costs less to clear.
@@ -66,13 +65,13 @@ pub fn pass<S: SmallSymbol>(
     syndrome: &mut [u8],
     difference: &mut [u8],
     changes: &mut [u8],
-) -> u32
+) -> Result<(), Refusal>
     ensures outcome { record {
-      number = result;
+      number = answer result;
       left = record { state = state_by res.new syndrome.new difference.new; changes = changes.new };
     } ≡ wide_pass_outcome (wide_code S.profile k b (positions_of table.now)) threshold
         (state_by res.old syndrome.old difference.old) changes.old }
-    ensures falling { result ≡ 0 → PassFalls (wide_code S.profile k b (positions_of table.now)) threshold
+    ensures falling { answer result ≡ 0 → PassFalls (wide_code S.profile k b (positions_of table.now)) threshold
         (state_read (symbol_size S.profile) (state_by res.old syndrome.old difference.old)) }
 {
     let code = Params {

@@ -1,9 +1,11 @@
--- The tests give the number; refused, all is as it was lent; done, the buffers of one of the three sizes are large enough.
-use Rattle.std.proofs.Common.{◌≡◌, List, ℕ, ◌*◌, ◌≤◌, take, sym, ◌∙◌, arith}
+-- Refused, all is as it was lent; done, the buffers of one of the three sizes are large enough.
+use Rattle.std.proofs.Common.{◌≡◌, refl, List, ℕ, ◌*◌, ◌≤◌, take, sym, ◌∙◌, arith}
+use Rattle.std.proofs.lemmas.Result.{err_from_is_err_and}
 use Rattle.model.specs.Bytes.{symbol_size, positions_of, wide_pass_outcome}
 use Rattle.model.specs.Calls.{Passed, outcome}
 use Rattle.model.specs.Code.{Profile, highest, wide_code}
 use Rattle.model.specs.Decoder.{State, state_by}
+use Rattle.refusals.specs.Numbers.{not_zero}
 use Rattle.theory.specs.Answers.{table_usable}
 use Rattle.theory.specs.Outcomes.{left_as_lent, left_as_done}
 use Rattle.position_bytes.specs.Positions.{kept}
@@ -35,58 +37,59 @@ module _ {f : Profile} {w : ℕ} (wide : IsWide f w) (k b : ℕ) (xs ps : List �
       → (x : Passed (List ℕ)) → x ≡ passed_bytes (symbol_size f) (wide_code f k b xs) t lent → record { number = 0; left = x } ≡ wide_pass_outcome (wide_code f k b ps) t lent changes
   finished m z x h = whole 0 x (left_as_done _ _ _ x (sym z ∙ m) h)
 
-pub returns-then-number-ne0 : goal.returns-then-number-ne0
-returns-then-number-ne0 g c =
+pub returns-in_err-pass_answer : goal.returns-in_err-pass_answer
+returns-in_err-pass_answer g c =
     let a = c.args in
     let xs : List ℕ = take c.read_positions-count.result c.read_positions-count.new.positions in
     let lent = state_by a.res.now a.syndrome.now a.difference.now in
-    let m = c.pass_number-number.ensures in
-    refused g.met.S.WideSymbol.is_wide a.code.k a.code.b xs (positions_of a.table.now) c.read_positions-count.ensures.read a.threshold lent a.changes.now m c.if-number-ne0.true
+    let m = c.in_err-pass_answer.ensures in
+    let p = err_from_is_err_and c.from_residual.result c.from_residual.ensures.1 in
+    rw (p.1, p.2) (refused g.met.S.WideSymbol.is_wide a.code.k a.code.b xs (positions_of a.table.now) c.read_positions-count.ensures.read a.threshold lent a.changes.now m (not_zero _))
 
 pub pass_within-requires : goal.pass_within-requires
 pass_within-requires g c =
     let a = c.args in
     let xs : List ℕ = take c.read_positions-count.result c.read_positions-count.new.positions in
     let lent = state_by a.res.now a.syndrome.now a.difference.now in
-    let m = c.pass_number-number.ensures in
-    (takes g.met.S.WideSymbol.is_wide a.code.k a.code.b xs (positions_of a.table.now) c.read_positions-count.ensures.read a.threshold lent a.changes.now m c.if-number-ne0.false, omega (arith, c.data_count-n.ensures, c.if-n-le128.true), omega arith)
+    let m = c.in_ok-pass_answer.ensures in
+    (takes g.met.S.WideSymbol.is_wide a.code.k a.code.b xs (positions_of a.table.now) c.read_positions-count.ensures.read a.threshold lent a.changes.now m refl, omega (arith, c.data_count-n.ensures, c.if-n-le128.true), omega arith)
 
 pub returns-then-n-le128 : goal.returns-then-n-le128
 returns-then-n-le128 g c =
     let a = c.args in
     let xs : List ℕ = take c.read_positions-count.result c.read_positions-count.new.positions in
     let lent = state_by a.res.now a.syndrome.now a.difference.now in
-    let m = c.pass_number-number.ensures in
-    finished g.met.S.WideSymbol.is_wide a.code.k a.code.b xs (positions_of a.table.now) c.read_positions-count.ensures.read a.threshold lent a.changes.now m c.if-number-ne0.false _ c.pass_within.ensures
+    let m = c.in_ok-pass_answer.ensures in
+    finished g.met.S.WideSymbol.is_wide a.code.k a.code.b xs (positions_of a.table.now) c.read_positions-count.ensures.read a.threshold lent a.changes.now m refl _ c.pass_within.ensures
 
 pub pass_within-requires-then-n-le1024 : goal.pass_within-requires-then-n-le1024
 pass_within-requires-then-n-le1024 g c =
     let a = c.args in
     let xs : List ℕ = take c.read_positions-count.result c.read_positions-count.new.positions in
     let lent = state_by a.res.now a.syndrome.now a.difference.now in
-    let m = c.pass_number-number.ensures in
-    (takes g.met.S.WideSymbol.is_wide a.code.k a.code.b xs (positions_of a.table.now) c.read_positions-count.ensures.read a.threshold lent a.changes.now m c.if-number-ne0.false, omega (arith, c.data_count-n.ensures, c.if-n-le1024.true), omega arith)
+    let m = c.in_ok-pass_answer.ensures in
+    (takes g.met.S.WideSymbol.is_wide a.code.k a.code.b xs (positions_of a.table.now) c.read_positions-count.ensures.read a.threshold lent a.changes.now m refl, omega (arith, c.data_count-n.ensures, c.if-n-le1024.true), omega arith)
 
 pub returns-then-n-le1024 : goal.returns-then-n-le1024
 returns-then-n-le1024 g c =
     let a = c.args in
     let xs : List ℕ = take c.read_positions-count.result c.read_positions-count.new.positions in
     let lent = state_by a.res.now a.syndrome.now a.difference.now in
-    let m = c.pass_number-number.ensures in
-    finished g.met.S.WideSymbol.is_wide a.code.k a.code.b xs (positions_of a.table.now) c.read_positions-count.ensures.read a.threshold lent a.changes.now m c.if-number-ne0.false _ c.pass_within-then-n-le1024.ensures
+    let m = c.in_ok-pass_answer.ensures in
+    finished g.met.S.WideSymbol.is_wide a.code.k a.code.b xs (positions_of a.table.now) c.read_positions-count.ensures.read a.threshold lent a.changes.now m refl _ c.pass_within-then-n-le1024.ensures
 
 pub pass_within-requires-2 : goal.pass_within-requires-2
 pass_within-requires-2 g c =
     let a = c.args in
     let xs : List ℕ = take c.read_positions-count.result c.read_positions-count.new.positions in
     let lent = state_by a.res.now a.syndrome.now a.difference.now in
-    let m = c.pass_number-number.ensures in
-    (takes g.met.S.WideSymbol.is_wide a.code.k a.code.b xs (positions_of a.table.now) c.read_positions-count.ensures.read a.threshold lent a.changes.now m c.if-number-ne0.false, few g.met.S.WideSymbol.is_wide a.code.k a.code.b xs (positions_of a.table.now) c.read_positions-count.ensures.read a.threshold lent a.changes.now m c.if-number-ne0.false, omega arith)
+    let m = c.in_ok-pass_answer.ensures in
+    (takes g.met.S.WideSymbol.is_wide a.code.k a.code.b xs (positions_of a.table.now) c.read_positions-count.ensures.read a.threshold lent a.changes.now m refl, few g.met.S.WideSymbol.is_wide a.code.k a.code.b xs (positions_of a.table.now) c.read_positions-count.ensures.read a.threshold lent a.changes.now m refl, omega arith)
 
 pub returns : goal.returns
 returns g c =
     let a = c.args in
     let xs : List ℕ = take c.read_positions-count.result c.read_positions-count.new.positions in
     let lent = state_by a.res.now a.syndrome.now a.difference.now in
-    let m = c.pass_number-number.ensures in
-    finished g.met.S.WideSymbol.is_wide a.code.k a.code.b xs (positions_of a.table.now) c.read_positions-count.ensures.read a.threshold lent a.changes.now m c.if-number-ne0.false _ c.pass_within-2.ensures
+    let m = c.in_ok-pass_answer.ensures in
+    finished g.met.S.WideSymbol.is_wide a.code.k a.code.b xs (positions_of a.table.now) c.read_positions-count.ensures.read a.threshold lent a.changes.now m refl _ c.pass_within-2.ensures
