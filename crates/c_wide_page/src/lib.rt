@@ -8,15 +8,16 @@ ghost use Rattle.model.specs.Decoder.{state_by};
 ghost use Rattle.model.specs.Calls.{table_answer};
 ghost use Rattle.model.specs.Bytes.{symbol_size, symbols_of, positions_of, wide_encode_outcome, wide_syndrome_outcome, wide_open_outcome};
 ghost use Rattle.model.specs.Demand.{Encodes};
+ghost use Rattle.refusals.specs.Numbers.{answer};
 ghost use Rattle.wide_symbols.specs.Codes.{wide_code_by};
 
 use params::Params;
-use wide_buffers::SmallSymbol;
+use refusals::Refusal;
 use wide_symbols::WideSymbol;
 
 // Checks a code table. A small table is read into a small buffer, which costs less to clear.
-pub fn check_table<S: WideSymbol>(k: u32, b: u32, table: &[u8]) -> u32
-    ensures { result ≡ table_answer (wide_code S.profile k b (positions_of table.now)) }
+pub fn check_table<S: WideSymbol>(k: u32, b: u32, table: &[u8]) -> Result<(), Refusal>
+    ensures { answer result ≡ table_answer (wide_code S.profile k b (positions_of table.now)) }
 {
     let code = Params {
         q: 256,
@@ -35,30 +36,38 @@ pub fn check_table<S: WideSymbol>(k: u32, b: u32, table: &[u8]) -> u32
 }
 
 // Encodes data into a page, with the positions read.
-fn encode_with<S: SmallSymbol>(code: Params, positions: &[u16], data: &[u8], page: &mut [u8]) -> u32
+fn encode_with<S: Room>(
+    code: Params,
+    positions: &[u16],
+    data: &[u8],
+    page: &mut [u8],
+) -> Result<(), Refusal>
     requires { (code.k ≤ 4294967295) × (code.b ≤ 4294967295) }
-    ensures outcome { record { number = result; left = page.new }
+    ensures outcome { record { number = answer result; left = page.new }
         ≡ wide_encode_outcome (wide_code_by S.profile code positions.now) «data».now page.old }
-    ensures word { result ≡ 0 → Encodes (wide_code_by S.profile code positions.now) (symbols_of (symbol_size S.profile) «data».now)
+    ensures word { answer result ≡ 0 → Encodes (wide_code_by S.profile code positions.now) (symbols_of (symbol_size S.profile) «data».now)
         (symbols_of (symbol_size S.profile) page.new) }
 {
     let n = params::data_count(code);
     let sent = wide_bytes::count::<S>(data);
     let whole = wide_bytes::count::<S>(page);
     let fits = lengths::two_fit(sent, n, whole, n + code.k);
-    let number = wide_answers::page_answer::<S>(code, positions, fits);
-    if number != 0 {
-        return number;
-    }
+    wide_answers::page_answer::<S>(code, positions, fits)?;
     c_wide_checks::encode_into::<S>(code, positions, data, page);
-    0
+    Ok(())
 }
 
 // Encodes data into a page.
-pub fn encode<S: SmallSymbol>(k: u32, b: u32, table: &[u8], data: &[u8], page: &mut [u8]) -> u32
-    ensures outcome { record { number = result; left = page.new }
+pub fn encode<S: Room>(
+    k: u32,
+    b: u32,
+    table: &[u8],
+    data: &[u8],
+    page: &mut [u8],
+) -> Result<(), Refusal>
+    ensures outcome { record { number = answer result; left = page.new }
         ≡ wide_encode_outcome (wide_code S.profile k b (positions_of table.now)) «data».now page.old }
-    ensures word { result ≡ 0 → Encodes (wide_code S.profile k b (positions_of table.now)) (symbols_of (symbol_size S.profile) «data».now)
+    ensures word { answer result ≡ 0 → Encodes (wide_code S.profile k b (positions_of table.now)) (symbols_of (symbol_size S.profile) «data».now)
         (symbols_of (symbol_size S.profile) page.new) }
 {
     let code = Params {
@@ -78,32 +87,34 @@ pub fn encode<S: SmallSymbol>(k: u32, b: u32, table: &[u8], data: &[u8], page: &
 }
 
 // Works out the syndrome of a page, with the positions read.
-fn syndrome_with<S: SmallSymbol>(code: Params, positions: &[u16], page: &[u8], s: &mut [u8]) -> u32
+fn syndrome_with<S: Room>(
+    code: Params,
+    positions: &[u16],
+    page: &[u8],
+    s: &mut [u8],
+) -> Result<(), Refusal>
     requires { (code.k ≤ 4294967295) × (code.b ≤ 4294967295) }
-    ensures { record { number = result; left = s.new }
+    ensures { record { number = answer result; left = s.new }
         ≡ wide_syndrome_outcome (wide_code_by S.profile code positions.now) page.now s.old }
 {
     let n = params::data_count(code);
     let whole = wide_bytes::count::<S>(page);
     let checks = wide_bytes::count::<S>(s);
     let fits = lengths::two_fit(whole, n + code.k, checks, code.k);
-    let number = wide_answers::page_answer::<S>(code, positions, fits);
-    if number != 0 {
-        return number;
-    }
+    wide_answers::page_answer::<S>(code, positions, fits)?;
     c_wide_checks::syndrome_into::<S>(code, positions, page, s);
-    0
+    Ok(())
 }
 
 // Works out the syndrome of a page.
-pub fn syndrome<S: SmallSymbol>(
+pub fn syndrome<S: Room>(
     k: u32,
     b: u32,
     table: &[u8],
     page: &[u8],
     syndrome: &mut [u8],
-) -> u32
-    ensures { record { number = result; left = syndrome.new }
+) -> Result<(), Refusal>
+    ensures { record { number = answer result; left = syndrome.new }
         ≡ wide_syndrome_outcome (wide_code S.profile k b (positions_of table.now)) page.now syndrome.old }
 {
     let code = Params {
@@ -130,9 +141,9 @@ fn open_with<S: SmallSymbol>(
     res: &mut [u8],
     s: &mut [u8],
     d: &mut [u8],
-) -> u32
+) -> Result<(), Refusal>
     requires { (code.k ≤ 4294967295) × (code.b ≤ 4294967295) }
-    ensures { record { number = result; left = state_by res.new s.new d.new }
+    ensures { record { number = answer result; left = state_by res.new s.new d.new }
         ≡ wide_open_outcome (wide_code_by S.profile code positions.now) page.now (state_by res.old s.old d.old) }
 {
     let n = params::data_count(code);
@@ -141,12 +152,9 @@ fn open_with<S: SmallSymbol>(
     let checks = wide_bytes::count::<S>(s);
     let differences = wide_bytes::count::<S>(d);
     let fits = lengths::decode_fits(true, n, code.k, whole, sent, checks, differences);
-    let number = wide_answers::page_answer::<S>(code, positions, fits);
-    if number != 0 {
-        return number;
-    }
+    wide_answers::page_answer::<S>(code, positions, fits)?;
     c_wide_checks::open_into::<S>(code, positions, page, res, s, d);
-    0
+    Ok(())
 }
 
 // Opens a page.
@@ -158,8 +166,8 @@ pub fn open<S: SmallSymbol>(
     res: &mut [u8],
     syndrome: &mut [u8],
     difference: &mut [u8],
-) -> u32
-    ensures { record { number = result; left = state_by res.new syndrome.new difference.new }
+) -> Result<(), Refusal>
+    ensures { record { number = answer result; left = state_by res.new syndrome.new difference.new }
         ≡ wide_open_outcome (wide_code S.profile k b (positions_of table.now)) page.now
         (state_by res.old syndrome.old difference.old) }
 {

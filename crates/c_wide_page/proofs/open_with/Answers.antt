@@ -1,23 +1,26 @@
 use Rattle.std.proofs.Common.{sym, ◌∙◌, arith}
+use Rattle.std.proofs.lemmas.Result.{err_from_is_err_and}
 use Rattle.model.specs.Bytes.{symbol_size, symbols_of, state_read}
 use Rattle.model.specs.Decoder.{state_by}
 use Rattle.theory.specs.Outcomes.{left_as_lent, left_as_done}
+use Rattle.refusals.specs.Numbers.{not_zero}
 use Rattle.wide_symbols.specs.Codes.{wide_code_by}
 use Rattle.wide_answers.specs.Fits.{open_number}
 use Rattle.wide_bytes.specs.Places.{wide_some, wide_below}
 use Rattle.c_wide.specs.Calls.{open_left, open_takes}
 use Rattle.c_wide_page.proofs.open_with.Goals as goal
 
-pub returns-then-number-ne0 : goal.returns-then-number-ne0
-returns-then-number-ne0 g c =
+pub returns-in_err-page_answer : goal.returns-in_err-page_answer
+returns-in_err-page_answer g c =
     let f = g.S.WideSymbol.profile in
     let code = wide_code_by f c.args.code c.args.positions.now in
     let u = symbols_of (symbol_size f) c.args.page.now in
     let lent = state_by c.args.res.now c.args.s.now c.args.d.now in
     let low = wide_below g.met.S.WideSymbol.is_wide c.args.page.now (λ i. omega (arith, c.type_inv.page i)) in
-    let number = open_number code u _ _ (c.page_answer-number.ensures u low) _ c.data_count-n.ensures _ _ (state_read (symbol_size f) lent) _ _ c.decode_fits-fits.ensures
+    let number = open_number code u _ _ (c.in_err-page_answer.ensures u low) _ c.data_count-n.ensures _ _ (state_read (symbol_size f) lent) _ _ c.decode_fits-fits.ensures
     c.count-whole.ensures c.count-sent.ensures c.count-checks.ensures c.count-differences.ensures in
-    left_as_lent _ _ _ _ number c.if-number-ne0.true ∙ sym (open_left code c.args.page.now lent)
+    let p = err_from_is_err_and c.from_residual.result c.from_residual.ensures.1 in
+    rw (p.1, p.2) (left_as_lent _ _ _ _ number (not_zero _) ∙ sym (open_left code c.args.page.now lent))
 
 pub open_into-requires : goal.open_into-requires
 open_into-requires g c =
@@ -26,9 +29,9 @@ open_into-requires g c =
     let u = symbols_of (symbol_size f) c.args.page.now in
     let lent = state_by c.args.res.now c.args.s.now c.args.d.now in
     let low = wide_below g.met.S.WideSymbol.is_wide c.args.page.now (λ i. omega (arith, c.type_inv.page i)) in
-    let number = open_number code u _ _ (c.page_answer-number.ensures u low) _ c.data_count-n.ensures _ _ (state_read (symbol_size f) lent) _ _ c.decode_fits-fits.ensures
+    let number = open_number code u _ _ (c.in_ok-page_answer.ensures u low) _ c.data_count-n.ensures _ _ (state_read (symbol_size f) lent) _ _ c.decode_fits-fits.ensures
     c.count-whole.ensures c.count-sent.ensures c.count-checks.ensures c.count-differences.ensures in
-    open_takes code (symbol_size f) (wide_some g.met.S.WideSymbol.is_wide) c.args.page.now lent (sym number ∙ c.if-number-ne0.false)
+    open_takes code (symbol_size f) (wide_some g.met.S.WideSymbol.is_wide) c.args.page.now lent (sym number)
 
 pub returns : goal.returns
 returns g c =
@@ -37,6 +40,6 @@ returns g c =
     let u = symbols_of (symbol_size f) c.args.page.now in
     let lent = state_by c.args.res.now c.args.s.now c.args.d.now in
     let low = wide_below g.met.S.WideSymbol.is_wide c.args.page.now (λ i. omega (arith, c.type_inv.page i)) in
-    let number = open_number code u _ _ (c.page_answer-number.ensures u low) _ c.data_count-n.ensures _ _ (state_read (symbol_size f) lent) _ _ c.decode_fits-fits.ensures
+    let number = open_number code u _ _ (c.in_ok-page_answer.ensures u low) _ c.data_count-n.ensures _ _ (state_read (symbol_size f) lent) _ _ c.decode_fits-fits.ensures
     c.count-whole.ensures c.count-sent.ensures c.count-checks.ensures c.count-differences.ensures in
-    left_as_done _ _ _ _ (sym c.if-number-ne0.false ∙ number) c.open_into.ensures ∙ sym (open_left code c.args.page.now lent)
+    left_as_done _ _ _ _ number c.open_into.ensures ∙ sym (open_left code c.args.page.now lent)
