@@ -11,11 +11,11 @@ returns-then-table-le64 g c =
     let a = c.args in
     let f = g.S.WideSymbol.profile in
     c.explain_with.ensures
-    ∙ explain_whole f (highest f) a.k a.b _ (positions_of a.table.now) c.read_positions-n.ensures.read a.threshold a.symbol (state_by a.res.now a.syndrome.now a.difference.now) a.answer.now
+    ∙ explain_whole f (highest f) a.k a.b _ (positions_of a.table.now) c.read_positions-n.ensures.read a.threshold a.symbol (state_by a.res.now a.syndrome.now a.difference.now) a.explanation.now
 
 pub returns : goal.returns
 returns g c =
     let a = c.args in
     let f = g.S.WideSymbol.profile in
     c.explain_with-2.ensures
-    ∙ explain_whole f (highest f) a.k a.b _ (positions_of a.table.now) c.read_positions-n-2.ensures.read a.threshold a.symbol (state_by a.res.now a.syndrome.now a.difference.now) a.answer.now
+    ∙ explain_whole f (highest f) a.k a.b _ (positions_of a.table.now) c.read_positions-n-2.ensures.read a.threshold a.symbol (state_by a.res.now a.syndrome.now a.difference.now) a.explanation.now

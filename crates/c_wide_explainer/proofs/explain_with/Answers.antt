@@ -1,6 +1,7 @@
--- Refused, the answer is as it was lent; done, it is the bytes of what is told of the symbol.
-use Rattle.std.proofs.Common.{◌≡◌, Bool, true, ◌&&◌, List, ℕ, ◌<◌, length, get_or, Fits, w8, sym, ◌∙◌, ap, arith}
+-- Refused, the explanation is as it was lent; done, it is the bytes of what is told of the symbol.
+use Rattle.std.proofs.Common.{◌≡◌, refl, Bool, true, ◌&&◌, List, ℕ, ◌<◌, length, get_or, Fits, w8, sym, ◌∙◌, ap, arith}
 use Rattle.std.specs.Prelude.{eqb}
+use Rattle.std.proofs.lemmas.Result.{err_from_is_err_and}
 use Rattle.model.specs.Bytes.{symbol_size, state_read, explained_bytes, c_explain_outcome, wide_explain_outcome}
 use Rattle.model.specs.Calls.{state_fits, state_symbols, explain_answer, explained}
 use Rattle.model.specs.Code.{Code, Profile, highest, data_count}
@@ -11,6 +12,7 @@ use Rattle.theory.specs.Answers.{PassTaken, pass_taken, explain_taken, table_usa
 use Rattle.theory.specs.Outcomes.{left_as_lent, left_as_done}
 use Rattle.theory.specs.Profiles.{state_low}
 use Rattle.grounds.specs.declared.Told.{Told}
+use Rattle.refusals.specs.Numbers.{not_zero}
 use Rattle.wide_symbols.specs.Codes.{wide_code_by}
 use Rattle.wide_symbols.specs.Widths.{IsWide, wide_low}
 use Rattle.wide_bytes.specs.Places.{wide_some, wide_below}
@@ -53,20 +55,21 @@ module _ (c : Code) (fits : Bool) (threshold symbol : ℕ) (bytes : State) where
 pub data_count-n-requires : goal.data_count-n-requires
 data_count-n-requires g c = omega (arith, sizes_fit c.args.code.k c.args.code.b c.requires.0 c.requires.1)
 
-pub explain_answer-number-requires : goal.explain_answer-number-requires
-explain_answer-number-requires g c = omega (arith, sizes_fit c.args.code.k c.args.code.b c.requires.0 c.requires.1)
+pub explain_answer-requires : goal.explain_answer-requires
+explain_answer-requires g c = omega (arith, sizes_fit c.args.code.k c.args.code.b c.requires.0 c.requires.1)
 
-pub returns-then-number-ne0 : goal.returns-then-number-ne0
+pub returns-in_err-explain_answer : goal.returns-in_err-explain_answer
 unfolding wide_explain_outcome c_explain_outcome
-returns-then-number-ne0 g c =
+returns-in_err-explain_answer g c =
     let a = c.args in
     let code = wide_code_by g.S.WideSymbol.profile a.code a.positions.now in
     let bytes = state_by a.res.now a.syndrome.now a.difference.now in
     let low = read_low g.met.S.WideSymbol.is_wide bytes c.type_inv.res c.type_inv.syndrome c.type_inv.difference in
     let n =
-    number code (eqb (length a.answer.now) 24) a.threshold a.symbol bytes _ _ _ _ _ (c.explain_answer-number.ensures _ low) c.state_fits-fits.ensures
+    number code (eqb (length a.explanation.now) 24) a.threshold a.symbol bytes _ _ _ _ _ (c.in_err-explain_answer.ensures _ low) c.state_fits-fits.ensures
     c.data_count-n.ensures c.count-sent.ensures c.count-checks.ensures c.count-differences.ensures in
-    left_as_lent _ _ _ _ n c.if-number-ne0.true
+    let p = err_from_is_err_and c.from_residual.result c.from_residual.ensures.1 in
+    rw (p.1, p.2) (left_as_lent _ _ _ _ n (not_zero _))
 
 pub tell_symbol-told-requires : goal.tell_symbol-told-requires
 tell_symbol-told-requires g c =
@@ -75,9 +78,9 @@ tell_symbol-told-requires g c =
     let bytes = state_by a.res.now a.syndrome.now a.difference.now in
     let low = read_low g.met.S.WideSymbol.is_wide bytes c.type_inv.res c.type_inv.syndrome c.type_inv.difference in
     let n =
-    number code (eqb (length a.answer.now) 24) a.threshold a.symbol bytes _ _ _ _ _ (c.explain_answer-number.ensures _ low) c.state_fits-fits.ensures
+    number code (eqb (length a.explanation.now) 24) a.threshold a.symbol bytes _ _ _ _ _ (c.in_ok-explain_answer.ensures _ low) c.state_fits-fits.ensures
     c.data_count-n.ensures c.count-sent.ensures c.count-checks.ensures c.count-differences.ensures in
-    let t = taken code (eqb (length a.answer.now) 24) a.threshold a.symbol bytes n c.if-number-ne0.false in
+    let t = taken code (eqb (length a.explanation.now) 24) a.threshold a.symbol bytes n refl in
     let u = table_usable code t.pass.table in
     let z = t.pass.sized in
     let l = state_bytes code (symbol_size code.profile) (wide_some g.met.S.WideSymbol.is_wide) u bytes z.len_result z.len_syndrome z.len_difference in
@@ -90,10 +93,10 @@ put_answer-requires g c =
     let bytes = state_by a.res.now a.syndrome.now a.difference.now in
     let low = read_low g.met.S.WideSymbol.is_wide bytes c.type_inv.res c.type_inv.syndrome c.type_inv.difference in
     let n =
-    number code (eqb (length a.answer.now) 24) a.threshold a.symbol bytes _ _ _ _ _ (c.explain_answer-number.ensures _ low) c.state_fits-fits.ensures
+    number code (eqb (length a.explanation.now) 24) a.threshold a.symbol bytes _ _ _ _ _ (c.in_ok-explain_answer.ensures _ low) c.state_fits-fits.ensures
     c.data_count-n.ensures c.count-sent.ensures c.count-checks.ensures c.count-differences.ensures in
-    let t = taken code (eqb (length a.answer.now) 24) a.threshold a.symbol bytes n c.if-number-ne0.false in
-    eqb-true (length a.answer.now) 24 t.room
+    let t = taken code (eqb (length a.explanation.now) 24) a.threshold a.symbol bytes n refl in
+    eqb-true (length a.explanation.now) 24 t.room
 
 pub returns : goal.returns
 unfolding wide_explain_outcome c_explain_outcome explained estimates
@@ -103,8 +106,8 @@ returns g c =
     let bytes = state_by a.res.now a.syndrome.now a.difference.now in
     let low = read_low g.met.S.WideSymbol.is_wide bytes c.type_inv.res c.type_inv.syndrome c.type_inv.difference in
     let n =
-    number code (eqb (length a.answer.now) 24) a.threshold a.symbol bytes _ _ _ _ _ (c.explain_answer-number.ensures _ low) c.state_fits-fits.ensures
+    number code (eqb (length a.explanation.now) 24) a.threshold a.symbol bytes _ _ _ _ _ (c.in_ok-explain_answer.ensures _ low) c.state_fits-fits.ensures
     c.data_count-n.ensures c.count-sent.ensures c.count-checks.ensures c.count-differences.ensures in
-    left_as_done _ _ _ _ (sym c.if-number-ne0.false ∙ n)
+    left_as_done _ _ _ _ n
     (c.put_answer.ensures
     ∙ ap (λ (t : Told). explained_bytes (record { ground_number = t.ground_number; leader = t.leader; lead = t.lead; next = t.next; bits = t.bits })) c.tell_symbol-told.ensures)
