@@ -13,7 +13,7 @@ ghost use Rattle.model.specs.Demand.{Encodes, DecodeFalls, DecodeRecovers, PassF
 pub extern "C" fn qmtd_u16_check_table(k: u32, b: u32, table: &[u8]) -> u32
     ensures { result ≡ table_answer (wide_code wide16 k b (positions_of table.now)) }
 {
-    c_page16::check_table(k, b, table)
+    refusals::answer(c_wide_page::check_table::<u16>(k, b, table))
 }
 
 // Encodes data into a page.
@@ -24,7 +24,7 @@ pub extern "C" fn qmtd_u16_encode(k: u32, b: u32, table: &[u8], data: &[u8], pag
     ensures word { result ≡ 0 → Encodes (wide_code wide16 k b (positions_of table.now)) (symbols_of (symbol_size wide16) «data».now)
         (symbols_of (symbol_size wide16) page.new) }
 {
-    c_page16::encode(k, b, table, data, page)
+    refusals::answer(c_wide_page::encode::<u16>(k, b, table, data, page))
 }
 
 // Works out the syndrome of a page.
@@ -39,7 +39,7 @@ pub extern "C" fn qmtd_u16_syndrome(
     ensures { record { number = result; left = syndrome.new }
         ≡ wide_syndrome_outcome (wide_code wide16 k b (positions_of table.now)) page.now syndrome.old }
 {
-    c_page16::syndrome(k, b, table, page, syndrome)
+    refusals::answer(c_wide_page::syndrome::<u16>(k, b, table, page, syndrome))
 }
 
 // Decodes a page.
@@ -70,9 +70,9 @@ pub extern "C" fn qmtd_u16_decode(
     ensures recovery { result ≡ 0 → DecodeRecovers (wide_code wide16 k b (positions_of table.now)) thresholds.now (symbols_of (symbol_size wide16) page.now)
         (symbols_of (symbol_size wide16) res.new) }
 {
-    c_decoder16::decode(
+    refusals::answer(c_wide_decoder::decode::<u16>(
         k, b, table, page, thresholds, res, syndrome, difference, margins, counts,
-    )
+    ))
 }
 
 // Opens a page.
@@ -90,7 +90,7 @@ pub extern "C" fn qmtd_u16_open(
         ≡ wide_open_outcome (wide_code wide16 k b (positions_of table.now)) page.now
         (state_by res.old syndrome.old difference.old) }
 {
-    c_page16::open(k, b, table, page, res, syndrome, difference)
+    refusals::answer(c_wide_page::open::<u16>(k, b, table, page, res, syndrome, difference))
 }
 
 // One pass.
@@ -113,7 +113,9 @@ pub extern "C" fn qmtd_u16_pass(
     ensures falling { result ≡ 0 → PassFalls (wide_code wide16 k b (positions_of table.now)) threshold
         (state_read (symbol_size wide16) (state_by res.old syndrome.old difference.old)) }
 {
-    c_passing16::pass(k, b, table, threshold, res, syndrome, difference, changes)
+    refusals::answer(c_wide_passing::pass::<u16>(
+        k, b, table, threshold, res, syndrome, difference, changes,
+    ))
 }
 
 // Explains a data symbol.
@@ -133,7 +135,7 @@ pub extern "C" fn qmtd_u16_explain(
         ≡ wide_explain_outcome (wide_code wide16 k b (positions_of table.now)) threshold symbol
         (state_by res.now syndrome.now difference.now) answer.old }
 {
-    c_explainer16::explain(
+    refusals::answer(c_wide_explainer::explain::<u16>(
         k, b, table, threshold, symbol, res, syndrome, difference, answer,
-    )
+    ))
 }
