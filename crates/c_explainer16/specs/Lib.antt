@@ -1,2 +1,0 @@
--- Lengths by what is counted.
-pub mod Fits
