@@ -13,6 +13,7 @@ ghost use Rattle.wide_symbols.specs.Codes.{wide_code_by};
 
 use params::Params;
 use refusals::Refusal;
+use wide_buffers::SmallSymbol;
 use wide_symbols::WideSymbol;
 
 // Checks a code table. A small table is read into a small buffer, which costs less to clear.
@@ -36,7 +37,7 @@ pub fn check_table<S: WideSymbol>(k: u32, b: u32, table: &[u8]) -> Result<(), Re
 }
 
 // Encodes data into a page, with the positions read.
-fn encode_with<S: Room>(
+fn encode_with<S: SmallSymbol>(
     code: Params,
     positions: &[u16],
     data: &[u8],
@@ -58,7 +59,7 @@ fn encode_with<S: Room>(
 }
 
 // Encodes data into a page.
-pub fn encode<S: Room>(
+pub fn encode<S: SmallSymbol>(
     k: u32,
     b: u32,
     table: &[u8],
@@ -87,7 +88,7 @@ pub fn encode<S: Room>(
 }
 
 // Works out the syndrome of a page, with the positions read.
-fn syndrome_with<S: Room>(
+fn syndrome_with<S: SmallSymbol>(
     code: Params,
     positions: &[u16],
     page: &[u8],
@@ -107,7 +108,7 @@ fn syndrome_with<S: Room>(
 }
 
 // Works out the syndrome of a page.
-pub fn syndrome<S: Room>(
+pub fn syndrome<S: SmallSymbol>(
     k: u32,
     b: u32,
     table: &[u8],

@@ -13,18 +13,6 @@ pub use grounds::Told;
 use params::Params;
 use refusals::Refusal;
 
-// What explain on wide symbols hands back: its number, the ground, h0, m0, m1, and the bits of the estimates that equal h0; refused, zeros beside
-// the number.
-#[derive(Clone, Copy)]
-pub struct Explained {
-    pub number: u32,
-    pub ground: u32,
-    pub leader: u32,
-    pub lead: u32,
-    pub next: u32,
-    pub bits: u64,
-}
-
 // Explains a data symbol, for every form of the call: `others` says whether the buffers that only one form lends fit.
 #[tactic(auto, using(refusals::specs::Numbers::not_zero), unfolding(model::specs::Calls::explain_outcome, model::specs::Calls::outcome))]
 pub fn explain_with(

@@ -15,13 +15,6 @@ use params::Params;
 use refusals::Refusal;
 use tally::Tally;
 
-// What a pass on wide symbols hands back beside the buffers: its number, and its changes, none where it is refused.
-#[derive(Clone, Copy)]
-pub struct Passed {
-    pub number: u32,
-    pub changes: u32,
-}
-
 // One pass, for every form of the call: `others` says whether the buffers that only one form lends fit. zeros, which the form keeps on its
 // stack, has one byte a data symbol; `bits`, the code's, is handed down by itself.
 #[tactic(auto, using(refusals::specs::Numbers::not_zero), unfolding(model::specs::Calls::pass_outcome, model::specs::Calls::outcome))]

@@ -1,4 +1,4 @@
-// The tally of a decode: its four counts as a value, whose methods take it and return the next; and what decode hands back.
+// The tally of a decode: its four counts as a value, whose methods take it and return the next; and those of what decode hands back.
 #![tactic(auto)]
 
 ghost use Rattle.std.specs.Prelude.{◌≡◌, ◌+◌, ◌<◌, ◌≤◌};
@@ -67,11 +67,4 @@ pub fn counts(got: Result<Tally, Refusal>) -> Tally
     ensures { counts_of result ≡ counts_in got }
 {
     got.unwrap_or(Tally::opened(0))
-}
-
-// What decode hands back beside the buffers: its number, and the counts, four zeros where it is refused.
-#[derive(Clone, Copy)]
-pub struct Decoded {
-    pub number: u32,
-    pub tally: Tally,
 }

@@ -11,7 +11,7 @@ use Rattle.wide_page.proofs.encode.Goals as goal
 pub returns-in_err-page_answer : goal.returns-in_err-page_answer
 unfolding encode_outcome
 returns-in_err-page_answer g c =
-    let n = g.met.S.WideSymbol.are_numbers in
+    let n = g.met.S.Symbol.are_numbers in
     let code = wide_code g.S.WideSymbol.profile c.args.k c.args.b c.args.positions.now in
     let number = encode_tested n code c.args.«data».now c.args.page.now _ _ (c.in_err-page_answer.ensures _ c.all_below.ensures) _ c.data_count-n.ensures c.two_fit-fits.ensures in
     let p = err_from_is_err_and c.from_residual.result c.from_residual.ensures.1 in

@@ -13,7 +13,7 @@ use Rattle.wide_page.proofs.open.Goals as goal
 pub returns-in_err-page_answer : goal.returns-in_err-page_answer
 unfolding open_outcome
 returns-in_err-page_answer g c =
-    let n = g.met.S.WideSymbol.are_numbers in
+    let n = g.met.S.Symbol.are_numbers in
     let a = c.args in
     let code = wide_code g.S.WideSymbol.profile a.k a.b a.positions.now in
     let number = open_tested n code a.page.now a.res.now a.syndrome.now a.difference.now _ _ (c.in_err-page_answer.ensures _ c.all_below.ensures) _ c.data_count-n.ensures

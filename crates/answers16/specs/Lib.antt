@@ -1,2 +1,0 @@
--- The code of symbols of two bytes.
-pub mod Own

@@ -1,2 +1,0 @@
--- The code of symbols of four bytes.
-pub mod Own

@@ -1,2 +1,0 @@
--- Symbols written from the front.
-pub mod Turns
