@@ -43,7 +43,7 @@ fn pass<S: WideSymbol>(
     let mut tally = opened;
     let mut place = Place::opening(code.k, each);
     for _branch in 0..code.b {
-        // The loop is kept: which symbol is next depends on the zeros.
+        // kept: which symbol is next depends on the zeros
         loop {
             place = open_symbols::open_from(place, each, threshold, difference, zeros);
             if place.end <= place.symbol {
@@ -82,23 +82,27 @@ fn run_counted<S: WideSymbol>(
     ensures counted { zeros.new ≡ zero_counts (wide_code_by S.profile code positions.now) (S.numbers syndrome.new) }
     ensures marked { marks.new ≡ marks_of (S.numbers syndrome.new) }
 {
+    let n = thresholds.len();
     let each = params::checks_each(code, positions.len());
     let mut tally = opened;
-    let mut passes: u32 = 0;
-    let mut p = 0;
-    // The loop is kept: which threshold is next depends on what the pass changed.
-    while p < thresholds.len() {
+    let mut p: usize = 0;
+    let mut count: u32 = 0;
+    // kept: document 01 names this form, a loop that yields the passes run by `break`
+    let passes = loop {
+        if n <= p {
+            break count;
+        }
         let before = tally.changes;
         let threshold = thresholds[p];
         tally = pass(
             code, positions, each, threshold, res, syndrome, difference, zeros, marks, tally,
         );
-        passes += 1;
+        count += 1;
         p += 1;
         if tally.changes == before {
             p = schedule::next_smaller(thresholds, p, threshold);
         }
-    }
+    };
     tally.passed(passes)
 }
 

@@ -22,9 +22,9 @@ loop-p-preserved-then-tally-before g c =
     record {
       few = omega (arith, e.0);
       inside = e.1;
-      kept = pass_kept o.passes _ o.invariant.kept c.pass-tally.ensures.made;
-      left = ap (λ (ts : List ℕ). passes_from code (o.passes + 1) ts x) e.2
-          ∙ sym (pass_idle code o.passes o.p (data_count code) c.args.thresholds.now _ x c.loop-p-test.true refl c.pass-tally.ensures.made c.if-tally-before.true)
+      kept = pass_kept o.count _ o.invariant.kept c.pass-tally.ensures.made;
+      left = ap (λ (ts : List ℕ). passes_from code (o.count + 1) ts x) e.2
+          ∙ sym (pass_idle code o.count o.p (data_count code) c.args.thresholds.now _ x (omega arith) refl c.pass-tally.ensures.made c.if-tally-before.true)
           ∙ o.invariant.left;
       counted = c.pass-tally.ensures.counted;
       marked = c.pass-tally.ensures.marked;
@@ -40,8 +40,8 @@ loop-p-preserved g c =
     record {
       few = omega arith;
       inside = omega arith;
-      kept = pass_kept o.passes _ o.invariant.kept c.pass-tally.ensures.made;
-      left = sym (pass_changed code o.passes o.p (data_count code) c.args.thresholds.now _ x c.loop-p-test.true refl c.pass-tally.ensures.made c.if-tally-before.false)
+      kept = pass_kept o.count _ o.invariant.kept c.pass-tally.ensures.made;
+      left = sym (pass_changed code o.count o.p (data_count code) c.args.thresholds.now _ x (omega arith) refl c.pass-tally.ensures.made c.if-tally-before.false)
           ∙ o.invariant.left;
       counted = c.pass-tally.ensures.counted;
       marked = c.pass-tally.ensures.marked;
@@ -55,4 +55,4 @@ returns-clause-ran g c =
     let code = wide_code_by g.S.WideSymbol.profile c.args.code c.args.positions.now in
     let x = progress (n o.res) (n o.syndrome) (n o.difference) o.tally in
     rw c.passed.ensures
-    (sym (passes_nil code o.passes x) ∙ ap (λ (ts : List ℕ). passes_from code o.passes ts x) (sym (drop_of_length-le c.args.thresholds.now c.loop-p-test.false)) ∙ o.invariant.left)
+    (sym (passes_nil code o.count x) ∙ ap (λ (ts : List ℕ). passes_from code o.count ts x) (sym (drop_of_length-le c.args.thresholds.now (omega arith))) ∙ o.invariant.left)

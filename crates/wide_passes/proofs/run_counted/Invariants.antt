@@ -15,10 +15,10 @@ invariant-loop-p g l =
     let start = progress (n l.fn.res) (n l.fn.syndrome) (n l.fn.difference) l.fn.opened in
     let now = progress (n l.res) (n l.syndrome) (n l.difference) l.tally in
     record {
-      few : l.passes ≤ l.p;
+      few : l.count ≤ l.p;
       inside : l.p ≤ length l.thresholds;
-      kept : KeptIn (highest g.S.WideSymbol.profile) c (4096 * l.passes) start now;
-      left : passes_from c l.passes (drop l.p l.thresholds) now ≡ passes_from c 0 l.thresholds start;
+      kept : KeptIn (highest g.S.WideSymbol.profile) c (4096 * l.count) start now;
+      left : passes_from c l.count (drop l.p l.thresholds) now ≡ passes_from c 0 l.thresholds start;
       counted : l.zeros ≡ zero_counts c (n l.syndrome);
       marked : l.marks ≡ marks_of (n l.syndrome);
     }
