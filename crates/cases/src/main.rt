@@ -26,14 +26,7 @@ impl Code<'_> {
     }
 
     fn encode(self, symbols: &[u8], page: &mut [u8]) -> u32 {
-        answer(page::encode(
-            self.q,
-            self.k,
-            1,
-            self.positions,
-            symbols,
-            page,
-        ))
+        answer(page::encode(self.q, self.k, 1, self.positions, symbols, page))
     }
 
     fn syndrome(self, page: &[u8], s: &mut [u8]) -> u32 {
@@ -57,12 +50,7 @@ impl Code<'_> {
             &mut d,
             &mut margins,
         );
-        Decode {
-            got,
-            result,
-            s,
-            d,
-        }
+        Decode { got, result, s, d }
     }
 }
 

@@ -160,7 +160,14 @@ fn explains<C: Calls>(calls: &C, code: &Code, mut page: Page<'_>) -> Result<bool
     let numbers = answer.map_or([0; 6], |told| {
         let low = (told.bits & 0xffff_ffff) as u32;
         let high = (told.bits >> 32) as u32;
-        [told.ground_number, told.leader, told.lead, told.next, low, high]
+        [
+            told.ground_number,
+            told.leader,
+            told.lead,
+            told.next,
+            low,
+            high,
+        ]
     });
     Ok(returns(page, answer) && due.holds(&numbers))
 }

@@ -84,13 +84,7 @@ impl Calls for Bits {
         )
     }
 
-    fn explain(
-        &self,
-        code: &Code,
-        threshold: u32,
-        symbol: u32,
-        state: &State<u8>,
-    ) -> Answer<Told> {
+    fn explain(&self, code: &Code, threshold: u32, symbol: u32, state: &State<u8>) -> Answer<Told> {
         bits::explain(
             self.q,
             code.k,

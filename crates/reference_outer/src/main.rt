@@ -11,15 +11,7 @@ use std::io;
 // Is what the call returns and leaves what its record gives? A function for each call, which takes the block length.
 fn encode_is_right(q: u32, code: &Code, block: u32, page: Page<'_>) -> Result<bool, Fault> {
     fills(page, |symbols, out| {
-        outer_page::encode_outer(
-            q,
-            code.k,
-            code.b,
-            &code.positions,
-            block,
-            symbols,
-            out,
-        )
+        outer_page::encode_outer(q, code.k, code.b, &code.positions, block, symbols, out)
     })
 }
 

@@ -21,7 +21,11 @@ pub fn table_answer<S: WideSymbol>(code: Params, positions: &[u16]) -> Result<()
 }
 
 // Tests 2 to 6 and 10, of a call whose lent buffers fit or not, whatever symbols it reads.
-pub fn page_answer<S: WideSymbol>(code: Params, positions: &[u16], fits: bool) -> Result<(), Refusal>
+pub fn page_answer<S: WideSymbol>(
+    code: Params,
+    positions: &[u16],
+    fits: bool,
+) -> Result<(), Refusal>
     ensures { (input : List ℕ) → Below (highest S.profile) input → answer result ≡ first_that_applies (page_tests (wide_code_by S.profile code positions.now) fits input) }
 {
     table::shape_answer(code, positions)?;

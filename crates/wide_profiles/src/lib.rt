@@ -95,13 +95,7 @@ impl<S: Width> Calls for Wide<S> {
         )
     }
 
-    fn explain(
-        &self,
-        code: &Code,
-        threshold: u32,
-        symbol: u32,
-        state: &State<S>,
-    ) -> Answer<Told> {
+    fn explain(&self, code: &Code, threshold: u32, symbol: u32, state: &State<S>) -> Answer<Told> {
         wide_explainer::explain(
             code.k,
             code.b,

@@ -93,10 +93,11 @@ returns-clause-left c =
     let lent = state_by a.res.now a.syndrome.now a.difference.now in
     let k = passed code a.block a.others a.page.now a.thresholds.now lent a.n _ c.in_ok-blocks_answer.ensures c.decode_fits-fits.ensures c.requires.0 in
     let e = c.correct_page.ensures.done in
-    let r = room a.zeros.now k c.requires.0 c.requires.1 in
-    (left_by code a.block a.page.now a.thresholds.now lent k.taken.opens k.blocks _ _ e (simp (length-append, length-drop) (omega (arith, r, length-take-le _ _ r, c.requires.0, c.correct_page.auto.zeros)))
-        (λ m.
-        let z = c.correct_page.ensures.counted m in
-        take_at _ _ _ (ap length z ∙ length_zero_counts _ _) ∙ z),
-    low_by code a.block a.page.now a.thresholds.now lent k.taken.opens k.blocks _ e a.bits
-        (λ y. bits_two a.code.bits a.code.q k.taken.opens.high (sym c.requires.4 ∙ y)))
+    let r = room a.zeros.now k c.requires.0 c.requires.1 in (
+      left_by code a.block a.page.now a.thresholds.now lent k.taken.opens k.blocks _ _ e (simp (length-append, length-drop) (omega (arith, r, length-take-le _ _ r, c.requires.0, c.correct_page.auto.zeros)))
+          (λ m.
+          let z = c.correct_page.ensures.counted m in
+          take_at _ _ _ (ap length z ∙ length_zero_counts _ _) ∙ z),
+      low_by code a.block a.page.now a.thresholds.now lent k.taken.opens k.blocks _ e a.bits
+          (λ y. bits_two a.code.bits a.code.q k.taken.opens.high (sym c.requires.4 ∙ y)),
+    )
