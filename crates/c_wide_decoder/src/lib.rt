@@ -11,6 +11,7 @@ ghost use Rattle.wide_symbols.specs.Codes.{wide_code_by};
 
 use params::Params;
 use refusals::Refusal;
+use wide_buffers::SmallSymbol;
 
 // Decodes a page, with a table whose positions a buffer of M holds.
 fn decode_with<S: SmallSymbol, const M: usize>(

@@ -59,7 +59,7 @@ returns-in_err-decode_answer g c =
     let w = g.S.WideSymbol in
     let n = g.met.S.Symbol.are_numbers in
     let code = wide_code_by w.profile a.code a.positions.now in
-    let e = c.in_err-decode_answer.ensures (w.numbers a.page.now) c.all_below.ensures in
+    let e = c.in_err-decode_answer.ensures (g.S.Symbol.numbers a.page.now) c.all_below.ensures in
     let r = answered n code a.page.now a.res.now a.syndrome.now a.difference.now a.thresholds.now a.margins.now e c.decode_fits-fits.ensures c.data_count-n.ensures in
     let p = err_from_is_err_and c.from_residual.result c.from_residual.ensures.1 in
     rw (p.1, p.2) (left_as_lent _ _ _ _ r (not_zero _))
@@ -70,7 +70,7 @@ load_page-requires g c =
     let w = g.S.WideSymbol in
     let n = g.met.S.Symbol.are_numbers in
     let code = wide_code_by w.profile a.code a.positions.now in
-    let e = c.in_ok-decode_answer.ensures (w.numbers a.page.now) c.all_below.ensures in
+    let e = c.in_ok-decode_answer.ensures (g.S.Symbol.numbers a.page.now) c.all_below.ensures in
     let t = tested n code a.page.now a.res.now a.syndrome.now a.difference.now a.thresholds.now a.margins.now a.zeros.now a.marks.now e c.decode_fits-fits.ensures c.data_count-n.ensures refl c.requires.2 c.requires.4 in
     let o = t.taken.opens in
     omega (arith, o.whole.len, o.len_result, o.len_syndrome, numbers_length n a.page.now, numbers_length n a.res.now, numbers_length n a.syndrome.now)
@@ -81,7 +81,7 @@ slice_bounds-decode_state-end g c =
     let w = g.S.WideSymbol in
     let n = g.met.S.Symbol.are_numbers in
     let code = wide_code_by w.profile a.code a.positions.now in
-    let e = c.in_ok-decode_answer.ensures (w.numbers a.page.now) c.all_below.ensures in
+    let e = c.in_ok-decode_answer.ensures (g.S.Symbol.numbers a.page.now) c.all_below.ensures in
     let t = tested n code a.page.now a.res.now a.syndrome.now a.difference.now a.thresholds.now a.margins.now a.zeros.now a.marks.now e c.decode_fits-fits.ensures c.data_count-n.ensures refl c.requires.2 c.requires.4 in
     t.room
 
@@ -91,7 +91,7 @@ slice_bounds-decode_state-end-2 g c =
     let w = g.S.WideSymbol in
     let n = g.met.S.Symbol.are_numbers in
     let code = wide_code_by w.profile a.code a.positions.now in
-    let e = c.in_ok-decode_answer.ensures (w.numbers a.page.now) c.all_below.ensures in
+    let e = c.in_ok-decode_answer.ensures (g.S.Symbol.numbers a.page.now) c.all_below.ensures in
     let t = tested n code a.page.now a.res.now a.syndrome.now a.difference.now a.thresholds.now a.margins.now a.zeros.now a.marks.now e c.decode_fits-fits.ensures c.data_count-n.ensures refl c.requires.2 c.requires.4 in
     sym (length-take-le _ _ t.room)
 
@@ -101,7 +101,7 @@ slice_bounds-decode_state-end-3 g c =
     let w = g.S.WideSymbol in
     let n = g.met.S.Symbol.are_numbers in
     let code = wide_code_by w.profile a.code a.positions.now in
-    let e = c.in_ok-decode_answer.ensures (w.numbers a.page.now) c.all_below.ensures in
+    let e = c.in_ok-decode_answer.ensures (g.S.Symbol.numbers a.page.now) c.all_below.ensures in
     let t = tested n code a.page.now a.res.now a.syndrome.now a.difference.now a.thresholds.now a.margins.now a.zeros.now a.marks.now e c.decode_fits-fits.ensures c.data_count-n.ensures refl c.requires.2 c.requires.4 in
     t.mark-room
 
@@ -111,7 +111,7 @@ slice_bounds-decode_state-end-4 g c =
     let w = g.S.WideSymbol in
     let n = g.met.S.Symbol.are_numbers in
     let code = wide_code_by w.profile a.code a.positions.now in
-    let e = c.in_ok-decode_answer.ensures (w.numbers a.page.now) c.all_below.ensures in
+    let e = c.in_ok-decode_answer.ensures (g.S.Symbol.numbers a.page.now) c.all_below.ensures in
     let t = tested n code a.page.now a.res.now a.syndrome.now a.difference.now a.thresholds.now a.margins.now a.zeros.now a.marks.now e c.decode_fits-fits.ensures c.data_count-n.ensures refl c.requires.2 c.requires.4 in
     sym (length-take-le _ _ t.mark-room)
 
@@ -121,7 +121,7 @@ decode_state-tally-requires g c =
     let w = g.S.WideSymbol in
     let n = g.met.S.Symbol.are_numbers in
     let code = wide_code_by w.profile a.code a.positions.now in
-    let e = c.in_ok-decode_answer.ensures (w.numbers a.page.now) c.all_below.ensures in
+    let e = c.in_ok-decode_answer.ensures (g.S.Symbol.numbers a.page.now) c.all_below.ensures in
     let t = tested n code a.page.now a.res.now a.syndrome.now a.difference.now a.thresholds.now a.margins.now a.zeros.now a.marks.now e c.decode_fits-fits.ensures c.data_count-n.ensures refl c.requires.2 c.requires.4 in
     let l = c.load_page in (
       taken_loaded code (g.S.Symbol.numbers a.page.now) (g.S.Symbol.numbers a.res.now) (g.S.Symbol.numbers a.syndrome.now) (g.S.Symbol.numbers a.difference.now) _ _ l.ensures
@@ -138,7 +138,7 @@ fill-requires g c =
     let w = g.S.WideSymbol in
     let n = g.met.S.Symbol.are_numbers in
     let code = wide_code_by w.profile a.code a.positions.now in
-    let e = c.in_ok-decode_answer.ensures (w.numbers a.page.now) c.all_below.ensures in
+    let e = c.in_ok-decode_answer.ensures (g.S.Symbol.numbers a.page.now) c.all_below.ensures in
     let t = tested n code a.page.now a.res.now a.syndrome.now a.difference.now a.thresholds.now a.margins.now a.zeros.now a.marks.now e c.decode_fits-fits.ensures c.data_count-n.ensures refl c.requires.2 c.requires.4 in
     let made = c.decode_state-tally.ensures.done ∙ ap (decoded code a.thresholds.now) c.load_page.ensures in
     let zeros : List ℕ = c.decode_state-tally.new.zeros ++ drop c.data_count-n.result a.zeros.now in
@@ -158,7 +158,7 @@ returns g c =
     let w = g.S.WideSymbol in
     let n = g.met.S.Symbol.are_numbers in
     let code = wide_code_by w.profile a.code a.positions.now in
-    let e = c.in_ok-decode_answer.ensures (w.numbers a.page.now) c.all_below.ensures in
+    let e = c.in_ok-decode_answer.ensures (g.S.Symbol.numbers a.page.now) c.all_below.ensures in
     let t = tested n code a.page.now a.res.now a.syndrome.now a.difference.now a.thresholds.now a.margins.now a.zeros.now a.marks.now e c.decode_fits-fits.ensures c.data_count-n.ensures refl c.requires.2 c.requires.4 in
     let made = c.decode_state-tally.ensures.done ∙ ap (decoded code a.thresholds.now) c.load_page.ensures in
     left_as_done _ _ _ _ t.done
