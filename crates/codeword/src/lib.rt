@@ -23,13 +23,17 @@ fn add_rows(q: u32, positions: &[u16], data: &[u8], sums: &mut [u8])
         × SymbolsBelow q (length «data».now) sums.old }
     ensures { sums.new ≡ added q (check_sum_by (length «data».now) positions.now «data».now) sums.old }
 {
-    let pairs = positions.chunks_exact(2);
-    let last = pairs.remainder();
-    for pair in pairs {
-        rows::add_two_rows(q, pair[0] as usize, pair[1] as usize, sums, data);
+    let mut n = 0;
+    // kept: `first` of the remainder hands out an Option of a reference, which the modules for 32-bit processors lay out wrongly
+    while n + 1 < positions.len() {
+        let p = positions[n] as usize;
+        let r = positions[n + 1] as usize;
+        rows::add_two_rows(q, p, r, sums, data);
+        n += 2;
     }
-    if let Some(p) = last.first() {
-        rows::add_row(q, *p as usize, sums, data);
+    if n < positions.len() {
+        let p = positions[n] as usize;
+        rows::add_row(q, p, sums, data);
     }
 }
 

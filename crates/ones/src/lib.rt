@@ -20,8 +20,11 @@ fn gather(code: Params, positions: &[u16], j: usize, own: u8, s: &[u8]) -> u64
     ensures { result ≡ gathered (estimates_by code.k positions.now j own s.now) }
 {
     let mut word: u64 = 0;
-    for p in positions.iter().rev() {
-        let c = checks::check_of(code.k, j, *p);
+    let mut i = positions.len();
+    // kept: the library's `rev` hands out an Option of a reference at each turn: see codeword::add_rows
+    while 0 < i {
+        i -= 1;
+        let c = checks::check_of(code.k, j, positions[i]);
         word = word + word + (s[c] as u64);
     }
     word + word + (own as u64)

@@ -107,7 +107,12 @@ fn is_open_before<S: Symbol>(
 fn least_of(zeros: &[u8]) -> u8
     ensures { (i : ℕ) → i < length zeros.now → result ≤ get_or zeros.now i 0 }
 {
-    zeros.iter().copied().min().unwrap_or(255)
+    // not `iter().min()`, which hands out an Option of a reference at each turn: see codeword::add_rows
+    let mut least: u8 = 255;
+    for z in zeros {
+        least = least.min(*z);
+    }
+    least
 }
 
 // From a data symbol on, in blocks of 64, past those in which every symbol has so many zeros at its checks.

@@ -40,8 +40,9 @@ fn add_branches<S: WideSymbol>(code: Params, positions: &[u16], data: &[S], sums
     let each = params::checks_each(code, positions.len());
     add_rows(&positions[1..each], &data[..k], sums);
     for r in 1..code.b {
-        let at = r * k;
-        let from = r * each;
+        // in 32 bits, since some processors have no product of 64
+        let at = (r as u32 * k as u32) as usize;
+        let from = (r as u32 * each as u32) as usize;
         add_rows(&positions[from..from + each], &data[at..at + k], sums);
     }
 }
