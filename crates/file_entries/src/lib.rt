@@ -90,7 +90,10 @@ pub fn put_two(d: &mut [u8], at: usize, n: usize)
     requires { at + 2 ≤ length d.old }
     ensures { d.new ≡ sets d.old at (bytes_in 2 n) }
 {
-    d[at..at + 2].copy_from_slice(&((n % 65536) as u16).to_le_bytes());
+    // two stores: `copy_from_slice` may be a call of memmove
+    let [low, high] = ((n % 65536) as u16).to_le_bytes();
+    d[at] = low;
+    d[at + 1] = high;
 }
 
 // The 11 bytes of an entry.

@@ -11,7 +11,12 @@ pub fn put_word(d: &mut [u8], at: usize, n: u32)
     requires { at + 4 ≤ length d.old }
     ensures { d.new ≡ sets d.old at (word_of n) }
 {
-    d[at..at + 4].copy_from_slice(&n.to_le_bytes());
+    // four stores: with `copy_from_slice` the loop over margins is not vectorised
+    let [first, second, third, fourth] = n.to_le_bytes();
+    d[at] = first;
+    d[at + 1] = second;
+    d[at + 2] = third;
+    d[at + 3] = fourth;
 }
 
 // The 16 bytes of the counts.
