@@ -60,6 +60,8 @@ fn mark_run(k: usize, run: &[u16], seen: &mut [u8]) -> bool
 
 // The differences of all runs together are all different. `seen` has a flag, 0 at first, for each value up to half of k.
 // A difference that is half of k is its own opposite and would stand twice, so its flag is set beforehand.
+// Not compiled into `self_orthogonal`, which would then clear the flags of every size before it knows which it needs.
+#[inline(never)]
 fn differences_differ(code: Params, positions: &[u16], seen: &mut [u8]) -> bool
     requires { TableLimits (code_by code positions.now)
         × (code.k < length seen.old + length seen.old)
