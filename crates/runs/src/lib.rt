@@ -104,11 +104,12 @@ fn read_next(file: &mut impl Read, alloc: Global, most: usize) -> io::Result<Nex
     if most < len {
         return Ok(Next::CutOff);
     }
-    let mut record = Vec::new(alloc);
-    if file.take(len as u64).read_to_end(&mut record)? == len {
-        Ok(Next::Record(record))
-    } else {
-        Ok(Next::CutOff)
+    // as long as it is from the start: `read_to_end` grows what it reads into, and reads in parts
+    let mut record = vec![in alloc; 0u8; len]?;
+    match file.read_exact(&mut record) {
+        Ok(()) => Ok(Next::Record(record)),
+        Err(e) if e.kind() == io::ErrorKind::UnexpectedEof => Ok(Next::CutOff),
+        Err(e) => Err(e),
     }
 }
 
