@@ -5,7 +5,7 @@ ghost use Rattle.std.specs.Prelude.{◌≡◌, ◌↔◌, IsTrue, ⊤};
 ghost use Rattle.refusals.specs.Numbers.{answer};
 
 use grounds::Told;
-use records::{Buffers, Code, Fault, Page, Piece, Profile, Record, Step, Symbol};
+use records::{Code, Fault, LentBuffers, Page, Piece, Profile, Record, Step, Symbol};
 use refusals::Refusal;
 use std::alloc::Global;
 use tally::Tally;
@@ -30,44 +30,44 @@ pub trait Calls: Drop {
     // Those of a page.
     fn read(page: &mut Page<'_>) -> Result<Self, Fault>;
 
-    fn check_table(&self, code: &Code) -> Answer<()>;
+    fn check_table(&self, code: Code<'_>) -> Answer<()>;
 
     fn encode(
         &self,
-        code: &Code,
+        code: Code<'_>,
         symbols: &[Self::Symbol],
         page: &mut [Self::Symbol],
     ) -> Answer<()>;
 
-    fn syndrome(&self, code: &Code, page: &[Self::Symbol], s: &mut [Self::Symbol]) -> Answer<()>;
+    fn syndrome(&self, code: Code<'_>, page: &[Self::Symbol], s: &mut [Self::Symbol]) -> Answer<()>;
 
     fn decode(
         &self,
-        code: &Code,
+        code: Code<'_>,
         page: &[Self::Symbol],
         thresholds: &[u8],
-        buffers: &mut Buffers<'_, Self::Symbol>,
+        buffers: &mut LentBuffers<'_, Self::Symbol>,
         margins: &mut [i32],
     ) -> Answer<Tally>;
 
     fn open(
         &self,
-        code: &Code,
+        code: Code<'_>,
         page: &[Self::Symbol],
-        buffers: &mut Buffers<'_, Self::Symbol>,
+        buffers: &mut LentBuffers<'_, Self::Symbol>,
     ) -> Answer<()>;
 
     // Hands back the changes.
     fn pass(
         &self,
-        code: &Code,
+        code: Code<'_>,
         threshold: u32,
-        buffers: &mut Buffers<'_, Self::Symbol>,
+        buffers: &mut LentBuffers<'_, Self::Symbol>,
     ) -> Answer<u32>;
 
     fn explain(
         &self,
-        code: &Code,
+        code: Code<'_>,
         threshold: u32,
         symbol: u32,
         state: &State<Self::Symbol>,
@@ -99,10 +99,10 @@ pub fn fills<S: Symbol, F: FnOnce(&[S], &mut [S]) -> Answer<()>>(
 }
 
 // Decode, or another call that takes what it takes.
-pub fn decodes<S: Symbol, F: FnOnce(&[S], &[u8], &mut Buffers<'_, S>, &mut [i32]) -> Answer<Tally>>(
-    mut page: Page<'_>,
-    call: F,
-) -> Result<bool, Fault>
+pub fn decodes<
+    S: Symbol,
+    F: FnOnce(&[S], &[u8], &mut LentBuffers<'_, S>, &mut [i32]) -> Answer<Tally>,
+>(mut page: Page<'_>, call: F) -> Result<bool, Fault>
     requires { F.IsAlwaysCallable call }
 {
     let received = page.symbols::<S>()?;
@@ -127,7 +127,7 @@ pub fn counts_are(counts: Piece<'_>, answer: Answer<Tally>) -> bool {
 }
 
 // The changes that a pass hands back, or 0.
-fn passes<C: Calls>(calls: &C, code: &Code, mut page: Page<'_>) -> Result<bool, Fault> {
+fn passes<C: Calls>(calls: &C, code: Code<'_>, mut page: Page<'_>) -> Result<bool, Fault> {
     let threshold = page.number()?;
     let mut buffers = page.hold_buffers::<C::Symbol>()?;
     let changes = page.string()?;
@@ -137,7 +137,7 @@ fn passes<C: Calls>(calls: &C, code: &Code, mut page: Page<'_>) -> Result<bool, 
 }
 
 // Open, which takes a page and fills the buffers.
-fn opens<C: Calls>(calls: &C, code: &Code, mut page: Page<'_>) -> Result<bool, Fault> {
+fn opens<C: Calls>(calls: &C, code: Code<'_>, mut page: Page<'_>) -> Result<bool, Fault> {
     let received = page.symbols::<C::Symbol>()?;
     let mut buffers = page.lend_buffers::<C::Symbol>()?;
     page.end()?;
@@ -146,7 +146,7 @@ fn opens<C: Calls>(calls: &C, code: &Code, mut page: Page<'_>) -> Result<bool, F
 }
 
 // The answer that an explanation hands back, its bits as two numbers, or zeros.
-fn explains<C: Calls>(calls: &C, code: &Code, mut page: Page<'_>) -> Result<bool, Fault> {
+fn explains<C: Calls>(calls: &C, code: Code<'_>, mut page: Page<'_>) -> Result<bool, Fault> {
     let threshold = page.number()?;
     let symbol = page.number()?;
     let state = State {
@@ -177,19 +177,20 @@ pub fn is_right<C: Calls>(record: Record<'_>, alloc: Global) -> Result<bool, Fau
     let step = record.step(C::PROFILE)?;
     let mut page = record.page(alloc)?;
     let calls = C::read(&mut page)?;
-    let code = page.code()?;
+    let table = page.code()?;
+    let code = table.code();
     match step {
         Step::CheckTable => {
             page.end()?;
-            Ok(returns(page, calls.check_table(&code)))
+            Ok(returns(page, calls.check_table(code)))
         }
-        Step::Encode => fills(page, |symbols, out| calls.encode(&code, symbols, out)),
-        Step::Syndrome => fills(page, |received, s| calls.syndrome(&code, received, s)),
+        Step::Encode => fills(page, |symbols, out| calls.encode(code, symbols, out)),
+        Step::Syndrome => fills(page, |received, s| calls.syndrome(code, received, s)),
         Step::Decode => decodes(page, |received, thresholds, buffers, margins| {
-            calls.decode(&code, received, thresholds, buffers, margins)
+            calls.decode(code, received, thresholds, buffers, margins)
         }),
-        Step::Open => opens(&calls, &code, page),
-        Step::Pass => passes(&calls, &code, page),
-        Step::Explain => explains(&calls, &code, page),
+        Step::Open => opens(&calls, code, page),
+        Step::Pass => passes(&calls, code, page),
+        Step::Explain => explains(&calls, code, page),
     }
 }

@@ -174,7 +174,7 @@ impl<'a> Page<'a> {
     }
 
     // The code: k, b and, as the first string, the table.
-    pub fn code(&mut self) -> Result<Code, Fault>
+    pub fn code(&mut self) -> Result<Table, Fault>
         ensures { IfOk result (λ c. vec_len c.positions ≤ MOST_POSITIONS) }
     {
         let k = self.number()?;
@@ -185,7 +185,7 @@ impl<'a> Page<'a> {
         for (i, position) in positions.iter_mut().enumerate() {
             *position = pair_at(table.content, i);
         }
-        Ok(Code { k, b, positions })
+        Ok(Table { k, b, positions })
     }
 
     // A string that the call reads as symbols.
@@ -205,20 +205,14 @@ impl<'a> Page<'a> {
     pub fn lend_up_to<S: Item>(&mut self, most: usize) -> Result<Lent<'a, S>, Fault>
         ensures { IfOk result (λ it. vec_len it.memory ≤ most) }
     {
-        let piece = self.string()?;
-        if piece.gives == Gives::Nothing && MOST_KEPT < piece.len {
-            return Err(Fault::Malformed);
-        }
-        piece.lend(most, self.alloc)
+        self.string()?.lend_kept(most, self.alloc)
     }
 
     // Memory to lend that holds the content.
     pub fn hold<S: Item>(&mut self) -> Result<Lent<'a, S>, Fault>
         ensures { IfOk result (λ it. vec_len it.memory ≤ S.MOST) }
     {
-        let mut it = self.lend()?;
-        it.hold();
-        Ok(it)
+        self.string()?.hold(self.alloc)
     }
 
     // Memory to lend for margins, which a record gives after the call or not at all.
@@ -233,21 +227,32 @@ impl<'a> Page<'a> {
         Piece { due, ..piece }.lend(i32::MOST, self.alloc)
     }
 
-    // The buffers of a page: memory to lend for answers.
-    pub fn lend_buffers<S: Item>(&mut self) -> Result<Buffers<'a, S>, Fault> {
+    // The strings of the buffers.
+    pub fn buffers(&mut self) -> Result<Buffers<'a>, Fault> {
         Ok(Buffers {
-            result: self.lend()?,
-            syndrome: self.lend()?,
-            difference: self.lend()?,
+            result: self.string()?,
+            syndrome: self.string()?,
+            difference: self.string()?,
+        })
+    }
+
+    // Memory to lend for the buffers: for answers.
+    pub fn lend_buffers<S: Item>(&mut self) -> Result<LentBuffers<'a, S>, Fault> {
+        let buffers = self.buffers()?;
+        Ok(LentBuffers {
+            result: buffers.result.lend_kept(S::MOST, self.alloc)?,
+            syndrome: buffers.syndrome.lend_kept(S::MOST, self.alloc)?,
+            difference: buffers.difference.lend_kept(S::MOST, self.alloc)?,
         })
     }
 
     // The same, holding their contents.
-    pub fn hold_buffers<S: Item>(&mut self) -> Result<Buffers<'a, S>, Fault> {
-        Ok(Buffers {
-            result: self.hold()?,
-            syndrome: self.hold()?,
-            difference: self.hold()?,
+    pub fn hold_buffers<S: Item>(&mut self) -> Result<LentBuffers<'a, S>, Fault> {
+        let buffers = self.buffers()?;
+        Ok(LentBuffers {
+            result: buffers.result.hold(self.alloc)?,
+            syndrome: buffers.syndrome.hold(self.alloc)?,
+            difference: buffers.difference.hold(self.alloc)?,
         })
     }
 }
@@ -312,10 +317,33 @@ impl<'a> Piece<'a> {
         if most < n {
             return Err(Fault::Malformed);
         }
+        let mut memory = vec![in alloc; S::FILL; n]?;
+        for x in memory.iter_mut().skip(S::FILLED) {
+            *x = S::REST;
+        }
         Ok(Lent {
             piece: self,
-            memory: vec![in alloc; S::FILL; n]?,
+            memory,
         })
+    }
+
+    // The same for a string that a call may have to leave as it was lent.
+    fn lend_kept<S: Item>(self, most: usize, alloc: Global) -> Result<Lent<'a, S>, Fault>
+        ensures { IfOk result (λ it. vec_len it.memory ≤ most) }
+    {
+        if self.gives == Gives::Nothing && MOST_KEPT < self.len {
+            return Err(Fault::Malformed);
+        }
+        self.lend(most, alloc)
+    }
+
+    // Memory to lend that holds the content.
+    fn hold<S: Item>(self, alloc: Global) -> Result<Lent<'a, S>, Fault>
+        ensures { IfOk result (λ it. vec_len it.memory ≤ S.MOST) }
+    {
+        let mut it = self.lend_kept(S::MOST, alloc)?;
+        it.hold();
+        Ok(it)
     }
 
     // The number at a place of what the call must write; 0 where the record does not give that.
@@ -373,27 +401,53 @@ impl<'a, S: Item> Lent<'a, S> {
     }
 }
 
-// The buffers of a page.
+// The strings of the buffers of a page, three in a row.
+#[derive(Clone, Copy)]
+pub struct Buffers<'a> {
+    pub result: Piece<'a>,
+    pub syndrome: Piece<'a>,
+    pub difference: Piece<'a>,
+}
+
+// Memory that is lent for them.
 #[derive(Drop)]
-pub struct Buffers<'a, S> {
+pub struct LentBuffers<'a, S> {
     pub result: Lent<'a, S>,
     pub syndrome: Lent<'a, S>,
     pub difference: Lent<'a, S>,
 }
 
-impl<'a, S: Item> Buffers<'a, S> {
+impl<'a, S: Item> LentBuffers<'a, S> {
     // The three after the call.
     pub fn are_due(&self) -> bool {
         self.result.is_due() && self.syndrome.is_due() && self.difference.is_due()
     }
 }
 
-// The numbers that every call takes, and the positions of its table.
+// The numbers of a code and the positions of its table, as they were read.
 #[derive(Drop)]
-pub struct Code {
+pub struct Table {
     pub k: u32,
     pub b: u32,
     pub positions: Vec<u16>,
+}
+
+impl Table {
+    pub fn code(&self) -> Code<'_> {
+        Code {
+            k: self.k,
+            b: self.b,
+            positions: &self.positions,
+        }
+    }
+}
+
+// The numbers that every call takes, and the positions of its table.
+#[derive(Clone, Copy)]
+pub struct Code<'a> {
+    pub k: u32,
+    pub b: u32,
+    pub positions: &'a [u16],
 }
 
 // The most bytes of symbols that a call must leave as they were lent, where a record gives nothing of them.

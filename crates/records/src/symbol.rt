@@ -4,8 +4,12 @@ use std::alloc::{AllocError, Global};
 
 // What memory lent for an answer has: symbols, or margins.
 pub trait Item: Copy + PartialEq + Drop {
-    // What memory lent for an answer holds before a call.
+    // What memory lent for an answer holds before a call: up to so many FILL, and behind them REST.
     const FILL: Self;
+
+    const FILLED: usize;
+
+    const REST: Self;
 
     // The most that a call is lent for one answer.
     const MOST: usize;
@@ -27,6 +31,10 @@ pub trait Symbol: Item {
 
 impl Item for u8 {
     const FILL: u8 = 165;
+
+    const FILLED: usize = 8300;
+
+    const REST: u8 = 165;
 
     const MOST: usize = 8300;
 
@@ -53,6 +61,10 @@ impl Item for i32 {
     // No margin.
     const FILL: i32 = 99;
 
+    const FILLED: usize = 4100;
+
+    const REST: i32 = 99;
+
     const MOST: usize = 4100;
 
     ghost MOST = { 4100 };
@@ -68,6 +80,10 @@ impl Item for i32 {
 
 impl Item for u16 {
     const FILL: u16 = 0xa5a5;
+
+    const FILLED: usize = 2100;
+
+    const REST: u16 = 0xa5a5;
 
     const MOST: usize = 2100;
 
@@ -94,6 +110,10 @@ impl Symbol for u16 {
 
 impl Item for u32 {
     const FILL: u32 = 0xa5a5_a5a5;
+
+    const FILLED: usize = 2075;
+
+    const REST: u32 = 0;
 
     const MOST: usize = 2100;
 

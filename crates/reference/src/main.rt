@@ -4,7 +4,7 @@
 
 use grounds::Told;
 use profiles::{Answer, Calls, State};
-use records::{Buffers, Code, Fault, Page, Profile};
+use records::{Code, Fault, LentBuffers, Page, Profile};
 use runs::MOST_RECORD;
 use std::io;
 use tally::Tally;
@@ -24,31 +24,31 @@ impl Calls for Bytes {
         Ok(Bytes { q: page.number()? })
     }
 
-    fn check_table(&self, code: &Code) -> Answer<()> {
-        table::check_table(self.q, code.k, code.b, &code.positions)
+    fn check_table(&self, code: Code<'_>) -> Answer<()> {
+        table::check_table(self.q, code.k, code.b, code.positions)
     }
 
-    fn encode(&self, code: &Code, symbols: &[u8], page: &mut [u8]) -> Answer<()> {
-        page::encode(self.q, code.k, code.b, &code.positions, symbols, page)
+    fn encode(&self, code: Code<'_>, symbols: &[u8], page: &mut [u8]) -> Answer<()> {
+        page::encode(self.q, code.k, code.b, code.positions, symbols, page)
     }
 
-    fn syndrome(&self, code: &Code, page: &[u8], s: &mut [u8]) -> Answer<()> {
-        page::syndrome(self.q, code.k, code.b, &code.positions, page, s)
+    fn syndrome(&self, code: Code<'_>, page: &[u8], s: &mut [u8]) -> Answer<()> {
+        page::syndrome(self.q, code.k, code.b, code.positions, page, s)
     }
 
     fn decode(
         &self,
-        code: &Code,
+        code: Code<'_>,
         page: &[u8],
         thresholds: &[u8],
-        buffers: &mut Buffers<'_, u8>,
+        buffers: &mut LentBuffers<'_, u8>,
         margins: &mut [i32],
     ) -> Answer<Tally> {
         decoder::decode(
             self.q,
             code.k,
             code.b,
-            &code.positions,
+            code.positions,
             page,
             thresholds,
             &mut buffers.result.memory,
@@ -58,12 +58,12 @@ impl Calls for Bytes {
         )
     }
 
-    fn open(&self, code: &Code, page: &[u8], buffers: &mut Buffers<'_, u8>) -> Answer<()> {
+    fn open(&self, code: Code<'_>, page: &[u8], buffers: &mut LentBuffers<'_, u8>) -> Answer<()> {
         opener::open(
             self.q,
             code.k,
             code.b,
-            &code.positions,
+            code.positions,
             page,
             &mut buffers.result.memory,
             &mut buffers.syndrome.memory,
@@ -71,12 +71,17 @@ impl Calls for Bytes {
         )
     }
 
-    fn pass(&self, code: &Code, threshold: u32, buffers: &mut Buffers<'_, u8>) -> Answer<u32> {
+    fn pass(
+        &self,
+        code: Code<'_>,
+        threshold: u32,
+        buffers: &mut LentBuffers<'_, u8>,
+    ) -> Answer<u32> {
         passing::pass(
             self.q,
             code.k,
             code.b,
-            &code.positions,
+            code.positions,
             threshold,
             &mut buffers.result.memory,
             &mut buffers.syndrome.memory,
@@ -84,12 +89,18 @@ impl Calls for Bytes {
         )
     }
 
-    fn explain(&self, code: &Code, threshold: u32, symbol: u32, state: &State<u8>) -> Answer<Told> {
+    fn explain(
+        &self,
+        code: Code<'_>,
+        threshold: u32,
+        symbol: u32,
+        state: &State<u8>,
+    ) -> Answer<Told> {
         explainer::explain(
             self.q,
             code.k,
             code.b,
-            &code.positions,
+            code.positions,
             threshold,
             symbol,
             &state.result,

@@ -3,7 +3,7 @@
 #![tactic(auto)]
 
 use profiles::{Answer, counts_are, returns};
-use records::{Buffers, Call, Code, Fault, Record};
+use records::{Call, Code, Fault, LentBuffers, Record};
 use runs::MOST_RECORD;
 use std::alloc::Global;
 use std::io;
@@ -11,10 +11,10 @@ use tally::Tally;
 
 fn decode(
     q: u32,
-    code: &Code,
+    code: Code<'_>,
     page: &[u8],
     thresholds: &[u8],
-    buffers: &mut Buffers<'_, u8>,
+    buffers: &mut LentBuffers<'_, u8>,
     margins: &mut [i32],
     counters: &mut [u8],
 ) -> Answer<Tally> {
@@ -22,7 +22,7 @@ fn decode(
         q,
         code.k,
         code.b,
-        &code.positions,
+        code.positions,
         page,
         thresholds,
         &mut buffers.result.memory,
@@ -37,7 +37,8 @@ fn decode(
 fn decode_is_right(record: Record<'_>, alloc: Global) -> Result<bool, Fault> {
     let mut page = record.page(alloc)?;
     let q = page.number()?;
-    let code = page.code()?;
+    let table = page.code()?;
+    let code = table.code();
     let received = page.symbols::<u8>()?;
     let thresholds = page.string()?;
     let mut buffers = page.lend_buffers()?;
@@ -47,7 +48,7 @@ fn decode_is_right(record: Record<'_>, alloc: Global) -> Result<bool, Fault> {
     page.end()?;
     let answer = decode(
         q,
-        &code,
+        code,
         &received,
         thresholds.content,
         &mut buffers,

@@ -9,19 +9,19 @@ use std::alloc::Global;
 use std::io;
 
 // Is what the call returns and leaves what its record gives? A function for each call, which takes the block length.
-fn encode_is_right(q: u32, code: &Code, block: u32, page: Page<'_>) -> Result<bool, Fault> {
+fn encode_is_right(q: u32, code: Code<'_>, block: u32, page: Page<'_>) -> Result<bool, Fault> {
     fills(page, |symbols, out| {
-        outer_page::encode_outer(q, code.k, code.b, &code.positions, block, symbols, out)
+        outer_page::encode_outer(q, code.k, code.b, code.positions, block, symbols, out)
     })
 }
 
-fn decode_is_right(q: u32, code: &Code, block: u32, page: Page<'_>) -> Result<bool, Fault> {
+fn decode_is_right(q: u32, code: Code<'_>, block: u32, page: Page<'_>) -> Result<bool, Fault> {
     decodes(page, |received, thresholds, buffers, margins| {
         outer_decoder::decode_outer(
             q,
             code.k,
             code.b,
-            &code.positions,
+            code.positions,
             block,
             received,
             thresholds,
@@ -40,12 +40,13 @@ fn is_right(record: Record<'_>, alloc: Global) -> Result<bool, Fault> {
     }
     let mut page = record.page(alloc)?;
     let q = page.number()?;
-    let code = page.code()?;
+    let table = page.code()?;
+    let code = table.code();
     let block = page.number()?;
     if call == Call::EncodeOuter {
-        encode_is_right(q, &code, block, page)
+        encode_is_right(q, code, block, page)
     } else {
-        decode_is_right(q, &code, block, page)
+        decode_is_right(q, code, block, page)
     }
 }
 

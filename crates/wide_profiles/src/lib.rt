@@ -3,7 +3,7 @@
 
 use grounds::Told;
 use profiles::{Answer, Calls, State};
-use records::{Buffers, Code, Fault, Page, Profile, Symbol};
+use records::{Code, Fault, LentBuffers, Page, Profile, Symbol};
 use std::marker::PhantomData;
 use tally::Tally;
 use wide_symbols::WideSymbol;
@@ -38,30 +38,30 @@ impl<S: Width> Calls for Wide<S> {
         })
     }
 
-    fn check_table(&self, code: &Code) -> Answer<()> {
-        wide_page::check_table::<S>(code.k, code.b, &code.positions)
+    fn check_table(&self, code: Code<'_>) -> Answer<()> {
+        wide_page::check_table::<S>(code.k, code.b, code.positions)
     }
 
-    fn encode(&self, code: &Code, symbols: &[S], page: &mut [S]) -> Answer<()> {
-        wide_page::encode(code.k, code.b, &code.positions, symbols, page)
+    fn encode(&self, code: Code<'_>, symbols: &[S], page: &mut [S]) -> Answer<()> {
+        wide_page::encode(code.k, code.b, code.positions, symbols, page)
     }
 
-    fn syndrome(&self, code: &Code, page: &[S], s: &mut [S]) -> Answer<()> {
-        wide_page::syndrome(code.k, code.b, &code.positions, page, s)
+    fn syndrome(&self, code: Code<'_>, page: &[S], s: &mut [S]) -> Answer<()> {
+        wide_page::syndrome(code.k, code.b, code.positions, page, s)
     }
 
     fn decode(
         &self,
-        code: &Code,
+        code: Code<'_>,
         page: &[S],
         thresholds: &[u8],
-        buffers: &mut Buffers<'_, S>,
+        buffers: &mut LentBuffers<'_, S>,
         margins: &mut [i32],
     ) -> Answer<Tally> {
         wide_decoder::decode(
             code.k,
             code.b,
-            &code.positions,
+            code.positions,
             page,
             thresholds,
             &mut buffers.result.memory,
@@ -71,11 +71,11 @@ impl<S: Width> Calls for Wide<S> {
         )
     }
 
-    fn open(&self, code: &Code, page: &[S], buffers: &mut Buffers<'_, S>) -> Answer<()> {
+    fn open(&self, code: Code<'_>, page: &[S], buffers: &mut LentBuffers<'_, S>) -> Answer<()> {
         wide_page::open(
             code.k,
             code.b,
-            &code.positions,
+            code.positions,
             page,
             &mut buffers.result.memory,
             &mut buffers.syndrome.memory,
@@ -83,11 +83,16 @@ impl<S: Width> Calls for Wide<S> {
         )
     }
 
-    fn pass(&self, code: &Code, threshold: u32, buffers: &mut Buffers<'_, S>) -> Answer<u32> {
+    fn pass(
+        &self,
+        code: Code<'_>,
+        threshold: u32,
+        buffers: &mut LentBuffers<'_, S>,
+    ) -> Answer<u32> {
         wide_passing::pass(
             code.k,
             code.b,
-            &code.positions,
+            code.positions,
             threshold,
             &mut buffers.result.memory,
             &mut buffers.syndrome.memory,
@@ -95,11 +100,17 @@ impl<S: Width> Calls for Wide<S> {
         )
     }
 
-    fn explain(&self, code: &Code, threshold: u32, symbol: u32, state: &State<S>) -> Answer<Told> {
+    fn explain(
+        &self,
+        code: Code<'_>,
+        threshold: u32,
+        symbol: u32,
+        state: &State<S>,
+    ) -> Answer<Told> {
         wide_explainer::explain(
             code.k,
             code.b,
-            &code.positions,
+            code.positions,
             threshold,
             symbol,
             &state.result,
