@@ -25,7 +25,7 @@ pub struct Told {
 }
 
 // The bits of the estimates that are h, from the lowest: the last estimate first, each doubling what stands.
-fn bits_of<E: Estimate>(es: &[E], h: E) -> u64
+pub fn bits_of<E: Estimate>(es: &[E], h: E) -> u64
     requires { length es.now ≤ 33 }
     ensures { result ≡ equal_bits (E.numbers es.now) (E.number h) }
 {

@@ -9,6 +9,9 @@ ghost use Rattle.visits.specs.Decisions.{to_subtract};
 
 use grounds::Told;
 
+// The bits of the estimates that are h, over estimates of four bytes too.
+pub use grounds::bits_of;
+
 // The low byte of an estimate.
 fn low_byte(x: u32) -> u8
     ensures { result ≡ x % 256 }
