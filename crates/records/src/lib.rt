@@ -433,7 +433,9 @@ pub struct Table {
 }
 
 impl Table {
-    pub fn code(&self) -> Code<'_> {
+    pub fn code(&self) -> Code<'_>
+        ensures { (result.k ≡ self.now.k) × (result.b ≡ self.now.b) × (result.positions.now ≡ self.now.positions.items) }
+    {
         Code {
             k: self.k,
             b: self.b,

@@ -4,12 +4,13 @@ use std::alloc::{AllocError, Global};
 
 // What memory lent for an answer has: symbols, or margins.
 pub trait Item: Copy + PartialEq + Drop {
-    // What memory lent for an answer holds before a call: up to so many FILL, and behind them REST.
+    // What memory lent for an answer holds before a call: FILL, but behind so many as FILLED says REST. Where a type leaves these two out, FILL
+    // alone.
     const FILL: Self;
 
-    const FILLED: usize;
+    const FILLED: usize = usize::MAX;
 
-    const REST: Self;
+    const REST: Self = Self::FILL;
 
     // The most that a call is lent for one answer.
     const MOST: usize;
@@ -111,6 +112,7 @@ impl Symbol for u16 {
 impl Item for u32 {
     const FILL: u32 = 0xa5a5_a5a5;
 
+    // 8,300 bytes are filled.
     const FILLED: usize = 2075;
 
     const REST: u32 = 0;
