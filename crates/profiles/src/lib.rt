@@ -5,7 +5,7 @@ ghost use Rattle.std.specs.Prelude.{◌≡◌, ◌↔◌, IsTrue, ⊤};
 ghost use Rattle.refusals.specs.Numbers.{answer};
 
 use grounds::Told;
-use records::{Code, Fault, LentBuffers, Page, Piece, Profile, Record, Step, Symbol};
+use records::{Code, Fault, LentBuffers, Page, Piece, Profile, Record, Step, Symbol, Table};
 use refusals::Refusal;
 use std::alloc::Global;
 use tally::Tally;
@@ -21,8 +21,8 @@ pub struct State<S> {
     pub difference: Vec<S>,
 }
 
-// The calls of a profile. A value has the numbers that they take before k.
-pub trait Calls: Drop {
+// The calls of a profile, on a code whose table lies anywhere. A value has the numbers that they take before k.
+pub trait CodeCalls: Drop {
     type Symbol: Symbol;
 
     const PROFILE: Profile;
@@ -72,6 +72,121 @@ pub trait Calls: Drop {
         symbol: u32,
         state: &State<Self::Symbol>,
     ) -> Answer<Told>;
+}
+
+// The calls of a profile, on a table that was read into memory. A value has the numbers that they take before k.
+pub trait Calls: Drop {
+    type Symbol: Symbol;
+
+    const PROFILE: Profile;
+
+    // Those of a page.
+    fn read(page: &mut Page<'_>) -> Result<Self, Fault>;
+
+    fn check_table(&self, code: &Table) -> Answer<()>;
+
+    fn encode(
+        &self,
+        code: &Table,
+        symbols: &[Self::Symbol],
+        page: &mut [Self::Symbol],
+    ) -> Answer<()>;
+
+    fn syndrome(&self, code: &Table, page: &[Self::Symbol], s: &mut [Self::Symbol]) -> Answer<()>;
+
+    fn decode(
+        &self,
+        code: &Table,
+        page: &[Self::Symbol],
+        thresholds: &[u8],
+        buffers: &mut LentBuffers<'_, Self::Symbol>,
+        margins: &mut [i32],
+    ) -> Answer<Tally>;
+
+    fn open(
+        &self,
+        code: &Table,
+        page: &[Self::Symbol],
+        buffers: &mut LentBuffers<'_, Self::Symbol>,
+    ) -> Answer<()>;
+
+    // Hands back the changes.
+    fn pass(
+        &self,
+        code: &Table,
+        threshold: u32,
+        buffers: &mut LentBuffers<'_, Self::Symbol>,
+    ) -> Answer<u32>;
+
+    fn explain(
+        &self,
+        code: &Table,
+        threshold: u32,
+        symbol: u32,
+        state: &State<Self::Symbol>,
+    ) -> Answer<Told>;
+}
+
+// Who has the calls on a code has those on a table, which are made on the table's code.
+impl<C: CodeCalls> Calls for C {
+    type Symbol = C::Symbol;
+
+    const PROFILE: Profile = C::PROFILE;
+
+    fn read(page: &mut Page<'_>) -> Result<C, Fault> {
+        C::read(page)
+    }
+
+    fn check_table(&self, code: &Table) -> Answer<()> {
+        CodeCalls::check_table(self, code.code())
+    }
+
+    fn encode(&self, code: &Table, symbols: &[C::Symbol], page: &mut [C::Symbol]) -> Answer<()> {
+        CodeCalls::encode(self, code.code(), symbols, page)
+    }
+
+    fn syndrome(&self, code: &Table, page: &[C::Symbol], s: &mut [C::Symbol]) -> Answer<()> {
+        CodeCalls::syndrome(self, code.code(), page, s)
+    }
+
+    fn decode(
+        &self,
+        code: &Table,
+        page: &[C::Symbol],
+        thresholds: &[u8],
+        buffers: &mut LentBuffers<'_, C::Symbol>,
+        margins: &mut [i32],
+    ) -> Answer<Tally> {
+        CodeCalls::decode(self, code.code(), page, thresholds, buffers, margins)
+    }
+
+    fn open(
+        &self,
+        code: &Table,
+        page: &[C::Symbol],
+        buffers: &mut LentBuffers<'_, C::Symbol>,
+    ) -> Answer<()> {
+        CodeCalls::open(self, code.code(), page, buffers)
+    }
+
+    fn pass(
+        &self,
+        code: &Table,
+        threshold: u32,
+        buffers: &mut LentBuffers<'_, C::Symbol>,
+    ) -> Answer<u32> {
+        CodeCalls::pass(self, code.code(), threshold, buffers)
+    }
+
+    fn explain(
+        &self,
+        code: &Table,
+        threshold: u32,
+        symbol: u32,
+        state: &State<C::Symbol>,
+    ) -> Answer<Told> {
+        CodeCalls::explain(self, code.code(), threshold, symbol, state)
+    }
 }
 
 // Does the call answer with the number that the page gives, 0 where it is done?
@@ -127,7 +242,7 @@ pub fn counts_are(counts: Piece<'_>, answer: Answer<Tally>) -> bool {
 }
 
 // The changes that a pass hands back, or 0.
-fn passes<C: Calls>(calls: &C, code: Code<'_>, mut page: Page<'_>) -> Result<bool, Fault> {
+fn passes<C: Calls>(calls: &C, code: &Table, mut page: Page<'_>) -> Result<bool, Fault> {
     let threshold = page.number()?;
     let mut buffers = page.hold_buffers::<C::Symbol>()?;
     let changes = page.string()?;
@@ -137,7 +252,7 @@ fn passes<C: Calls>(calls: &C, code: Code<'_>, mut page: Page<'_>) -> Result<boo
 }
 
 // Open, which takes a page and fills the buffers.
-fn opens<C: Calls>(calls: &C, code: Code<'_>, mut page: Page<'_>) -> Result<bool, Fault> {
+fn opens<C: Calls>(calls: &C, code: &Table, mut page: Page<'_>) -> Result<bool, Fault> {
     let received = page.symbols::<C::Symbol>()?;
     let mut buffers = page.lend_buffers::<C::Symbol>()?;
     page.end()?;
@@ -146,7 +261,7 @@ fn opens<C: Calls>(calls: &C, code: Code<'_>, mut page: Page<'_>) -> Result<bool
 }
 
 // The answer that an explanation hands back, its bits as two numbers, or zeros.
-fn explains<C: Calls>(calls: &C, code: Code<'_>, mut page: Page<'_>) -> Result<bool, Fault> {
+fn explains<C: Calls>(calls: &C, code: &Table, mut page: Page<'_>) -> Result<bool, Fault> {
     let threshold = page.number()?;
     let symbol = page.number()?;
     let state = State {
@@ -177,20 +292,19 @@ pub fn is_right<C: Calls>(record: Record<'_>, alloc: Global) -> Result<bool, Fau
     let step = record.step(C::PROFILE)?;
     let mut page = record.page(alloc)?;
     let calls = C::read(&mut page)?;
-    let table = page.code()?;
-    let code = table.code();
+    let code = page.code()?;
     match step {
         Step::CheckTable => {
             page.end()?;
-            Ok(returns(page, calls.check_table(code)))
+            Ok(returns(page, calls.check_table(&code)))
         }
-        Step::Encode => fills(page, |symbols, out| calls.encode(code, symbols, out)),
-        Step::Syndrome => fills(page, |received, s| calls.syndrome(code, received, s)),
+        Step::Encode => fills(page, |symbols, out| calls.encode(&code, symbols, out)),
+        Step::Syndrome => fills(page, |received, s| calls.syndrome(&code, received, s)),
         Step::Decode => decodes(page, |received, thresholds, buffers, margins| {
-            calls.decode(code, received, thresholds, buffers, margins)
+            calls.decode(&code, received, thresholds, buffers, margins)
         }),
-        Step::Open => opens(&calls, code, page),
-        Step::Pass => passes(&calls, code, page),
-        Step::Explain => explains(&calls, code, page),
+        Step::Open => opens(&calls, &code, page),
+        Step::Pass => passes(&calls, &code, page),
+        Step::Explain => explains(&calls, &code, page),
     }
 }

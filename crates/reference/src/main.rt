@@ -3,7 +3,7 @@
 #![tactic(auto)]
 
 use grounds::Told;
-use profiles::{Answer, Calls, State};
+use profiles::{Answer, CodeCalls, State};
 use records::{Code, Fault, LentBuffers, Page, Profile};
 use runs::MOST_RECORD;
 use std::io;
@@ -15,7 +15,7 @@ struct Bytes {
     q: u32,
 }
 
-impl Calls for Bytes {
+impl CodeCalls for Bytes {
     type Symbol = u8;
 
     const PROFILE: Profile = Profile::Bytes;

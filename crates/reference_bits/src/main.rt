@@ -3,7 +3,7 @@
 #![tactic(auto)]
 
 use grounds::Told;
-use profiles::{Answer, Calls, State};
+use profiles::{Answer, CodeCalls, State};
 use records::{Code, Fault, LentBuffers, Page, Profile};
 use runs::MOST_RECORD;
 use std::io;
@@ -15,7 +15,7 @@ struct Bits {
     q: u32,
 }
 
-impl Calls for Bits {
+impl CodeCalls for Bits {
     type Symbol = u8;
 
     const PROFILE: Profile = Profile::Bits;

@@ -2,7 +2,7 @@
 #![tactic(auto)]
 
 use grounds::Told;
-use profiles::{Answer, Calls, State};
+use profiles::{Answer, CodeCalls, State};
 use records::{Code, Fault, LentBuffers, Page, Profile, Symbol};
 use std::marker::PhantomData;
 use tally::Tally;
@@ -27,7 +27,7 @@ pub struct Wide<S> {
     symbols: PhantomData<S>,
 }
 
-impl<S: Width> Calls for Wide<S> {
+impl<S: Width> CodeCalls for Wide<S> {
     type Symbol = S;
 
     const PROFILE: Profile = S::PROFILE;
