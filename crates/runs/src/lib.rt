@@ -2,7 +2,7 @@
 // tests/reference/README.md has the format.
 #![tactic(auto)]
 
-ghost use Rattle.std.specs.Prelude.{◌≤◌, vec_len};
+ghost use Rattle.std.specs.Prelude.{◌≡◌, ◌≤◌, vec_len, IfOk, IfSome};
 
 use records::{Fault, Record};
 use std::alloc::Global;
@@ -13,6 +13,9 @@ use std::{fmt, io};
 
 // The most bytes of a record, but for files of pages.
 pub const MOST_RECORD: usize = 40960;
+
+// The most bytes of a record that are read at once.
+const PART: usize = 262144;
 
 // A group: how many pages there were, and how many came out wrong; none where its calls can be made in C alone.
 #[derive(Clone, Copy)]
@@ -92,6 +95,36 @@ enum Next {
     End,
 }
 
+// Fills memory from a file; not where the file ends before.
+fn fill(file: &mut impl Read, memory: &mut [u8]) -> io::Result<bool> {
+    match file.read_exact(memory) {
+        Ok(()) => Ok(true),
+        Err(e) if e.kind() == io::ErrorKind::UnexpectedEof => Ok(false),
+        Err(e) => Err(e),
+    }
+}
+
+// Reads a record of so many bytes; none where there are fewer. A long one is read in parts, so that one that names more bytes than the file has
+// writes no more memory than for those and a part. With `read_to_end` the parts would be shorter, and records of 40,960 bytes take longer.
+fn read_record(file: &mut impl Read, alloc: Global, len: usize) -> io::Result<Option<Vec<u8>>>
+    ensures { IfOk result (λ read. IfSome read (λ bytes. vec_len bytes ≡ len)) }
+{
+    if len <= PART {
+        let mut record = vec![in alloc; 0u8; len]?;
+        return Ok(fill(file, &mut record)?.then_some(record));
+    }
+    let mut record = Vec::new(alloc);
+    // where there is no memory for all of it, it grows with what is read
+    let _ = record.try_reserve_exact(len);
+    for start in (0..len).step_by(PART) {
+        record.resize(start + (len - start).min(PART), 0)?;
+        if !fill(file, &mut record[start..])? {
+            return Ok(None);
+        }
+    }
+    Ok(Some(record))
+}
+
 // Reads the next record, its length first.
 fn read_next(file: &mut impl Read, alloc: Global, most: usize) -> io::Result<Next> {
     let mut length = Vec::new(alloc);
@@ -104,13 +137,7 @@ fn read_next(file: &mut impl Read, alloc: Global, most: usize) -> io::Result<Nex
     if most < len {
         return Ok(Next::CutOff);
     }
-    // as long as it is from the start: `read_to_end` grows what it reads into, and reads in parts
-    let mut record = vec![in alloc; 0u8; len]?;
-    match file.read_exact(&mut record) {
-        Ok(()) => Ok(Next::Record(record)),
-        Err(e) if e.kind() == io::ErrorKind::UnexpectedEof => Ok(Next::CutOff),
-        Err(e) => Err(e),
-    }
+    Ok(read_record(file, alloc, len)?.map_or(Next::CutOff, Next::Record))
 }
 
 // Runs the pages of pages.bin. `is_right` says whether what the call of a page returns and leaves is what its record gives.
