@@ -4,8 +4,8 @@ use std::alloc::{AllocError, Global};
 
 // What memory lent for an answer has: symbols, or margins.
 pub trait Item: Copy + PartialEq + Drop {
-    // What memory lent for an answer holds before a call: FILL, but behind so many as FILLED says REST. Where a type leaves these two out, FILL
-    // alone.
+    // What memory lent for an answer holds before a call: FILL in its first FILLED places, and REST behind them. A type that does not give
+    // FILLED and REST has FILL in all places.
     const FILL: Self;
 
     const FILLED: usize = usize::MAX;

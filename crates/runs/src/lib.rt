@@ -95,7 +95,7 @@ enum Next {
     End,
 }
 
-// Fills memory from a file; not where the file ends before.
+// Fills memory from a file; false where the file ends before the memory is full.
 fn fill(file: &mut impl Read, memory: &mut [u8]) -> io::Result<bool> {
     match file.read_exact(memory) {
         Ok(()) => Ok(true),
@@ -104,8 +104,8 @@ fn fill(file: &mut impl Read, memory: &mut [u8]) -> io::Result<bool> {
     }
 }
 
-// Reads a record of so many bytes; none where there are fewer. A long one is read in parts, so that one that names more bytes than the file has
-// writes no more memory than for those and a part. With `read_to_end` the parts would be shorter, and records of 40,960 bytes take longer.
+// Reads a record of so many bytes; none where the file has fewer. A record longer than a part is read in parts, so that the memory written is at
+// most that of the bytes that are there and of one part. With `read_to_end` the parts would be shorter, and records of 40,960 bytes take longer.
 fn read_record(file: &mut impl Read, alloc: Global, len: usize) -> io::Result<Option<Vec<u8>>>
     ensures { IfOk result (λ read. IfSome read (λ bytes. vec_len bytes ≡ len)) }
 {
